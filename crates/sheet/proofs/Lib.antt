@@ -1,0 +1,14 @@
+pub mod BigEndian
+pub mod Packing
+pub mod RecordLists
+pub mod Heads
+pub mod Layouts
+pub mod FirstRecords
+pub mod Contents
+pub mod RoundTrips
+pub mod ReadNumbers
+pub mod Faults
+pub mod Additions
+pub mod Readings
+pub mod Overlays
+pub mod Writings

@@ -1,0 +1,10 @@
+pub mod Numbers
+pub mod Records
+pub mod Format
+pub mod Laid
+pub mod Verdict
+pub mod Splits
+pub mod Nexts
+pub mod Reads
+pub mod Fields
+pub mod Writes
