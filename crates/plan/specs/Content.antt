@@ -1,12 +1,14 @@
 -- What a plan says: its settings, and its segments and closures in the order of their numbers.
-use mathlib.Core.Bool.{true}
+use mathlib.Core.Bool.{cond, true}
 use mathlib.Core.List.{List, [], _∷_, _++_}
 use mathlib.Core.Path.{_≡_}
 use Prim.Native.Nat.{ℕ, _≤_}
 use lib.Dec.{ltb}
 use lib.ListN.{length}
 use Rattle.std.specs.Of.Vec.{vec-items}
-use Rattle.std.specs.Options.{isSome}
+use Rattle.std.specs.Finite.{nth}
+use Rattle.std.specs.Options.{isSome, mapped}
+use Rattle.std.specs.Results.{isOk}
 use Rattle.std.specs.declared.option.Option.{Option}
 use Rattle.std.specs.declared.option.Option.the-variants.{Some, None}
 use Rattle.std.specs.declared.result.Result.{Result}
@@ -20,10 +22,12 @@ use Rattle.plan.specs.declared.refusals.PlanError.the-variants as error
 use Rattle.plan.specs.declared.refusals.Refusal.{Refusal}
 use Rattle.plan.specs.declared.refusals.Refusal.the-variants as refusal
 use Rattle.plan.specs.declared.road_plan.Plan.{Plan}
+use Rattle.plan.specs.Critical.{critical}
 use Rattle.plan.specs.Limits.{most-closures, most-segments}
 use Rattle.plan.specs.Ranges.{closure-rules, closures-fit, segment-rules, segments-fit, settings-fit, settings-rules}
 use Rattle.plan.specs.Refusals.{outside}
 use Rattle.plan.specs.Rules.{Rule, first-broken, rule}
+use Rattle.plan.specs.Travel.{travel}
 
 pub record Content : Type 0 where
   pub settings : Settings
@@ -64,6 +68,21 @@ closure-addition c k =
 abbrev pub numbered : Option Refusal → ℕ → Result ℕ Fault
 numbered None n = Ok n
 numbered (Some r) n = Err (outside r)
+
+pub record SegmentAdded (c : Content) (g : Segment) (r : Result ℕ Fault) (after : Content) : Type 0 where
+  pub answer : r ≡ numbered (first-broken (segment-addition c g)) (length (c .segments))
+  pub grown : after ≡ cond (isOk r) (with-segment c g) c
+
+pub record ClosureAdded (c : Content) (k : Closure) (r : Result ℕ Fault) (after : Content) : Type 0 where
+  pub answer : r ≡ numbered (first-broken (closure-addition c k)) (length (c .closures))
+  pub grown : after ≡ cond (isOk r) (with-closure c k) c
+
+-- a segment's travel slots and critical count by its number
+abbrev pub travel-at : Content → ℕ → Option ℕ
+travel-at c number = mapped (travel (c .settings)) (nth (c .segments) number)
+
+abbrev pub critical-at : Content → ℕ → Option ℕ
+critical-at c number = mapped (critical (c .settings)) (nth (c .segments) number)
 
 -- what beginning a plan answers; want of memory is met only with settings in range
 abbrev pub Begins : Settings → Result Plan PlanError → Type 0

@@ -49,10 +49,20 @@ closure-layout = record {
   made = λ vs. record { segment = getD vs 0 0; first = getD vs 1 0; end = getD vs 2 0 };
 }
 
+-- what records one after the other say
+abbrev pub segments-in : List ℕ → List Segment
+segments-in = told-all segment-layout
+
+abbrev pub closures-in : List ℕ → List Closure
+closures-in = told-all closure-layout
+
+abbrev pub head-bytes : ℕ → ℕ → List ℕ
+head-bytes segments closures = packed head-widths (head-values segments closures)
+
 -- the sheet of a plan
 unfoldable pub encode : Content → List ℕ
 encode c =
-    packed head-widths (head-values (length (c .segments)) (length (c .closures)))
+    head-bytes (length (c .segments)) (length (c .closures))
     ++ (written settings-layout (c .settings)
     ++ (written-all segment-layout (c .segments) ++ written-all closure-layout (c .closures)))
 
@@ -79,6 +89,6 @@ section pair bytes = take (extent pair bytes) (drop (offset pair bytes) bytes)
 unfoldable pub decode : List ℕ → Content
 decode bytes = record {
   settings = told settings-layout (section settings-pair bytes);
-  segments = told-all segment-layout (section segments-pair bytes);
-  closures = told-all closure-layout (section closures-pair bytes);
+  segments = segments-in (section segments-pair bytes);
+  closures = closures-in (section closures-pair bytes);
 }

@@ -11,8 +11,8 @@ use Rattle.plan.specs.Content.{Content}
 use Rattle.plan.specs.Rules.{first-broken}
 use Rattle.plan.specs.declared.refusals.Fault.{Fault}
 use Rattle.sheet.specs.declared.sections.Sections.{Sections}
-use Rattle.sheet.specs.Format.{closure-layout, closures-pair, section, segment-layout, segments-pair, settings-layout, settings-pair}
-use Rattle.sheet.specs.Records.{told, told-all}
+use Rattle.sheet.specs.Format.{closures-in, closures-pair, section, segments-in, segments-pair, settings-layout, settings-pair}
+use Rattle.sheet.specs.Records.{told}
 use Rattle.sheet.specs.Verdict.{head-rules}
 
 pub record Split (bytes : List ℕ) (s : Sections) : Type 0 where
@@ -32,6 +32,6 @@ Splits bytes (Err f) = first-broken (head-rules bytes) ≡ Some f
 abbrev pub sections-content : Sections → Content
 sections-content s = record {
   settings = s .settings;
-  segments = told-all segment-layout (s .segments .now);
-  closures = told-all closure-layout (s .closures .now);
+  segments = segments-in (s .segments .now);
+  closures = closures-in (s .closures .now);
 }

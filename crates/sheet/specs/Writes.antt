@@ -16,6 +16,11 @@ use Rattle.sheet.specs.Verdict.{accepted, verdict}
 unfoldable pub over : List ℕ → ℕ → List ℕ → List ℕ
 over memory place bytes = take place memory ++ (bytes ++ drop (place + length bytes) memory)
 
+-- bytes have been written from a place on, and the answer is the place behind them
+pub record Put (before : List ℕ) (place : ℕ) (bytes : List ℕ) (after : List ℕ) (answer : ℕ) : Type 0 where
+  pub written : after ≡ over before place bytes
+  pub behind : answer ≡ place + length bytes
+
 -- the sheet stands at the start of the memory, which is otherwise as it was, and reads back as the plan;
 -- or the memory is too short, and as it was
 pub record Written (c : Content) (before : List ℕ) (count : ℕ) (after : List ℕ) : Type 0 where

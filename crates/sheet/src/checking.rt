@@ -5,10 +5,13 @@ ghost use Prim.Native.Nat.{ℕ, _≤_};
 ghost use lib.ListN.{length};
 ghost use Rattle.std.specs.declared.option.Option.the-variants.{None};
 ghost use Rattle.plan.specs.Rules.{first-broken};
-ghost use Rattle.sheet.specs.Format.{closure-layout, segment-layout};
-ghost use Rattle.sheet.specs.Records.{told-all};
+ghost use Rattle.sheet.specs.Format.{closures-in, segments-in};
 ghost use Rattle.sheet.specs.Splits.{Split};
 ghost use Rattle.sheet.specs.Verdict.{Sheet-of-a-plan, closures-rules, segments-rules, setting-fault, sheet-fault};
+use crate::format::CLOSURE_SIZE;
+use crate::format::SEGMENT_SIZE;
+use crate::format::SEGMENTS_START;
+use crate::format::SETTINGS_START;
 use crate::head::split;
 use crate::records::next_closure;
 use crate::records::next_segment;
@@ -20,10 +23,6 @@ use plan::Settings;
 use plan::ranges::closure_refusal;
 use plan::ranges::segment_refusal;
 use plan::ranges::setting_out_of_range;
-
-const SETTINGS_START: u32 = 26;
-
-const SEGMENTS_START: u32 = 33;
 
 fn fault_of_setting(setting: Setting) -> Fault
     ensures { λ r. ⌜ r ≡ setting-fault 26 setting ⌝ }
@@ -44,7 +43,7 @@ fn fault_of_setting(setting: Setting) -> Fault
 // The first fault of the segments' section.
 fn segments_fault(settings: Settings, section: &[u8]) -> Option<Fault>
     requires { ⌜ length (now section) ≤ 768 ⌝ }
-    ensures { λ r. ⌜ r ≡ first-broken (segments-rules settings 33 (told-all segment-layout (now (section .entry)))) ⌝ }
+    ensures { λ r. ⌜ r ≡ first-broken (segments-rules settings 33 (segments-in (now (section .entry)))) ⌝ }
 {
     let mut rest = section;
     let mut place = SEGMENTS_START;
@@ -57,7 +56,7 @@ fn segments_fault(settings: Settings, section: &[u8]) -> Option<Fault>
             });
         }
         rest = after;
-        place += 6;
+        place += SEGMENT_SIZE;
     }
     None
 }
@@ -65,7 +64,7 @@ fn segments_fault(settings: Settings, section: &[u8]) -> Option<Fault>
 // The first fault of the closures' section, which begins at `start`, among so many segments.
 fn closures_fault(settings: Settings, segments: u16, start: u32, section: &[u8]) -> Option<Fault>
     requires { ⌜ length (now section) ≤ 80 ⌝ ∗ ⌜ start ≤ 801 ⌝ }
-    ensures { λ r. ⌜ r ≡ first-broken (closures-rules settings segments start (told-all closure-layout (now (section .entry)))) ⌝ }
+    ensures { λ r. ⌜ r ≡ first-broken (closures-rules settings segments start (closures-in (now (section .entry)))) ⌝ }
 {
     let mut rest = section;
     let mut place = start;
@@ -78,7 +77,7 @@ fn closures_fault(settings: Settings, segments: u16, start: u32, section: &[u8])
             });
         }
         rest = after;
-        place += 5;
+        place += CLOSURE_SIZE;
     }
     None
 }
@@ -95,9 +94,9 @@ pub(crate) fn sections_fault(sections: Sections<'_>) -> Option<Fault>
     if let Some(fault) = segments_fault(sections.settings, sections.segments) {
         return Some(fault);
     }
-    let extent = sections.segments.len();
-    let segments = (extent / 6) as u16;
-    let start = SEGMENTS_START + extent as u32;
+    let extent = sections.segments.len() as u32;
+    let segments = (extent / SEGMENT_SIZE) as u16;
+    let start = SEGMENTS_START + extent;
     closures_fault(sections.settings, segments, start, sections.closures)
 }
 

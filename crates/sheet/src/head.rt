@@ -11,31 +11,22 @@ ghost use Rattle.sheet.specs.Numbers.{field};
 ghost use Rattle.sheet.specs.Records.{told};
 ghost use Rattle.sheet.specs.Splits.{Splits};
 ghost use Rattle.sheet.specs.Verdict.{extent-rules, fault, format-rules, head-rules, holds-records, pair-rules};
+use crate::format::CLOSURE_SIZE;
+use crate::format::CLOSURES_PAIR;
+use crate::format::FORMAT;
+use crate::format::HEAD_SIZE;
+use crate::format::SECTIONS;
+use crate::format::SEGMENT_SIZE;
+use crate::format::SEGMENTS_PAIR;
+use crate::format::SETTINGS_PAIR;
+use crate::format::SETTINGS_SIZE;
+use crate::format::SETTINGS_START;
 use crate::records::settings_of;
 use crate::sections::Sections;
 use plan::Fault;
 use plan::Refusal;
 use plan::limits::MOST_CLOSURES;
 use plan::limits::MOST_SEGMENTS;
-
-pub const HEAD_SIZE: usize = 26;
-
-pub const SETTINGS_SIZE: u64 = 7;
-
-pub const SEGMENT_SIZE: u64 = 6;
-
-pub const CLOSURE_SIZE: u64 = 5;
-
-const FORMAT: u8 = 1;
-
-const SECTIONS: u8 = 3;
-
-// The places of the pairs of offset and length.
-const SETTINGS_PAIR: u32 = 2;
-
-const SEGMENTS_PAIR: u32 = 10;
-
-const CLOSURES_PAIR: u32 = 18;
 
 #[derive(Clone, Copy)]
 struct Pair {
@@ -85,7 +76,7 @@ fn format_fault(bytes: &[u8]) -> Option<Fault>
     ensures whole { λ r. ⌜ (r ≡ None → 26 ≤ length (now (bytes .entry))) ⌝ }
     ensures bytes { λ r. ⌜ (r ≡ None → Under 256 (now (bytes .entry))) ⌝ }
 {
-    if bytes.len() < HEAD_SIZE {
+    if bytes.len() < HEAD_SIZE as usize {
         return Some(head_fault(0, Refusal::SheetTooShort));
     }
     if bytes[0] != FORMAT {
@@ -105,7 +96,7 @@ fn order_fault(bytes: &[u8]) -> Option<Fault>
     let settings = pair_at(bytes, SETTINGS_PAIR);
     let segments = pair_at(bytes, SEGMENTS_PAIR);
     let closures = pair_at(bytes, CLOSURES_PAIR);
-    if settings.offset != HEAD_SIZE as u64 {
+    if settings.offset != SETTINGS_START as u64 {
         return Some(head_fault(SETTINGS_PAIR, Refusal::SectionMisplaced));
     }
     if segments.offset != settings.offset + settings.extent {
@@ -121,10 +112,11 @@ fn order_fault(bytes: &[u8]) -> Option<Fault>
 }
 
 // Whether a section of so many bytes holds whole records of a size, and no more than `most`.
-fn holds_records(most: u16, size: u64, extent: u64) -> bool
-    requires { ⌜ 0 < size ⌝ ∗ ⌜ size < 2 ^ 8 ⌝ }
+fn holds_records(most: u16, size: u32, extent: u64) -> bool
+    requires { ⌜ 0 < size ⌝ }
     ensures { λ r. ⌜ r ≡ holds-records most size extent ⌝ }
 {
+    let size = size as u64;
     extent % size == 0 && extent <= most as u64 * size
 }
 
@@ -132,7 +124,7 @@ fn extent_fault(bytes: &[u8]) -> Option<Fault>
     requires { ⌜ 26 ≤ length (now bytes) ⌝ }
     ensures { λ r. ⌜ r ≡ first-broken (extent-rules (now (bytes .entry))) ⌝ }
 {
-    if pair_at(bytes, SETTINGS_PAIR).extent != SETTINGS_SIZE {
+    if pair_at(bytes, SETTINGS_PAIR).extent != SETTINGS_SIZE as u64 {
         return Some(head_fault(SETTINGS_PAIR, Refusal::SectionLengthWrong));
     }
     if !holds_records(
@@ -177,7 +169,7 @@ fn cut(bytes: &[u8]) -> Sections<'_>
     let start = segments.offset as usize;
     let end = start + segments.extent as usize;
     Sections {
-        settings: settings_of(&bytes[HEAD_SIZE..start]),
+        settings: settings_of(&bytes[SETTINGS_START as usize..start]),
         segments: &bytes[start..end],
         closures: &bytes[end..],
     }

@@ -2,6 +2,7 @@
 mod checking;
 pub mod export;
 mod fields;
+mod format;
 mod head;
 mod reading;
 mod records;

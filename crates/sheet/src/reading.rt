@@ -7,9 +7,8 @@ ghost use Rattle.std.specs.declared.result.Result.the-variants.{Ok};
 ghost use Rattle.plan.specs.Content.{Fits, bare, content};
 ghost use Rattle.plan.specs.Limits.{most-closures, most-segments};
 ghost use Rattle.plan.specs.Ranges.{closures-fit, segments-fit};
-ghost use Rattle.sheet.specs.Format.{closure-layout, segment-layout};
+ghost use Rattle.sheet.specs.Format.{closures-in, segments-in};
 ghost use Rattle.sheet.specs.Reads.{Reads, with-closures, with-segments};
-ghost use Rattle.sheet.specs.Records.{told-all};
 ghost use Rattle.sheet.specs.Splits.{sections-content};
 use crate::checking::sections_fault;
 use crate::head::split;
@@ -23,10 +22,10 @@ use std::alloc::Global;
 
 // Adds every segment of a section that has been checked.
 fn add_segments(plan: &mut Plan, section: &[u8]) -> Result<(), Fault>
-    requires fit { ⌜ segments-fit (content (now plan) .settings) (told-all segment-layout (now section)) ≡ true ⌝ }
-    requires room { ⌜ length (content (now plan) .segments) + length (told-all segment-layout (now section)) ≤ most-segments ⌝ }
+    requires fit { ⌜ segments-fit (content (now plan) .settings) (segments-in (now section)) ≡ true ⌝ }
+    requires room { ⌜ length (content (now plan) .segments) + length (segments-in (now section)) ≤ most-segments ⌝ }
     ensures done { λ r. ⌜ r ≡ Ok tt ⌝ }
-    ensures after { λ _. ⌜ content (now (plan .exit)) ≡ with-segments (content (now (plan .entry))) (told-all segment-layout (now (section .entry))) ⌝ }
+    ensures after { λ _. ⌜ content (now (plan .exit)) ≡ with-segments (content (now (plan .entry))) (segments-in (now (section .entry))) ⌝ }
 {
     let mut rest = section;
     while let Some((segment, after)) = next_segment(rest) {
@@ -38,10 +37,10 @@ fn add_segments(plan: &mut Plan, section: &[u8]) -> Result<(), Fault>
 
 // Adds every closure of a section that has been checked.
 fn add_closures(plan: &mut Plan, section: &[u8]) -> Result<(), Fault>
-    requires fit { ⌜ closures-fit (content (now plan) .settings) (length (content (now plan) .segments)) (told-all closure-layout (now section)) ≡ true ⌝ }
-    requires room { ⌜ length (content (now plan) .closures) + length (told-all closure-layout (now section)) ≤ most-closures ⌝ }
+    requires fit { ⌜ closures-fit (content (now plan) .settings) (length (content (now plan) .segments)) (closures-in (now section)) ≡ true ⌝ }
+    requires room { ⌜ length (content (now plan) .closures) + length (closures-in (now section)) ≤ most-closures ⌝ }
     ensures done { λ r. ⌜ r ≡ Ok tt ⌝ }
-    ensures after { λ _. ⌜ content (now (plan .exit)) ≡ with-closures (content (now (plan .entry))) (told-all closure-layout (now (section .entry))) ⌝ }
+    ensures after { λ _. ⌜ content (now (plan .exit)) ≡ with-closures (content (now (plan .entry))) (closures-in (now (section .entry))) ⌝ }
 {
     let mut rest = section;
     while let Some((closure, after)) = next_closure(rest) {

@@ -2,16 +2,22 @@
 ghost use mathlib.Core.Path.{_≡_};
 ghost use Prim.Native.Nat.{_+_, _≤_};
 ghost use lib.ListN.{length};
-ghost use Rattle.std.specs.shelf.Lists.{joined};
 ghost use Rattle.plan.specs.Content.{content};
 ghost use Rattle.sheet.specs.Fields.{field-bytes, fields-bytes};
-ghost use Rattle.sheet.specs.Format.{closure-layout, head-values, head-widths, segment-layout, settings-layout};
-ghost use Rattle.sheet.specs.Records.{packed, written, written-all};
-ghost use Rattle.sheet.specs.Writes.{Writes, over};
+ghost use Rattle.sheet.specs.Format.{closure-layout, head-bytes, segment-layout, settings-layout};
+ghost use Rattle.sheet.specs.Records.{written, written-all};
+ghost use Rattle.sheet.specs.Writes.{Put, Writes, over};
 use crate::fields::Field;
 use crate::fields::four_bytes;
 use crate::fields::one_byte;
 use crate::fields::two_bytes;
+use crate::format::CLOSURE_SIZE;
+use crate::format::FORMAT;
+use crate::format::SECTIONS;
+use crate::format::SEGMENT_SIZE;
+use crate::format::SEGMENTS_START;
+use crate::format::SETTINGS_SIZE;
+use crate::format::SETTINGS_START;
 use plan::Closure;
 use plan::Fault;
 use plan::Plan;
@@ -36,8 +42,7 @@ fn put_number(memory: &mut [u8], place: usize, field: Field)
 // Writes the numbers of a record one after the other, and answers the place behind them.
 fn put_record(memory: &mut [u8], start: usize, fields: &[Field]) -> usize
     requires { ⌜ start + length (fields-bytes (now fields)) ≤ length (now memory) ⌝ }
-    ensures bytes { λ _. ⌜ now (memory .exit) ≡ over (now (memory .entry)) start (fields-bytes (now (fields .entry))) ⌝ }
-    ensures behind { λ r. ⌜ r ≡ start + length (fields-bytes (now (fields .entry))) ⌝ }
+    ensures { λ r. ⌜ Put (now (memory .entry)) start (fields-bytes (now (fields .entry))) (now (memory .exit)) r ⌝ }
 {
     let mut place = start;
     for field in fields {
@@ -49,19 +54,18 @@ fn put_record(memory: &mut [u8], start: usize, fields: &[Field]) -> usize
 
 fn put_head(memory: &mut [u8], segments: u16, closures: u16) -> usize
     requires { ⌜ 26 ≤ length (now memory) ⌝ ∗ ⌜ segments ≤ 128 ⌝ ∗ ⌜ closures ≤ 16 ⌝ }
-    ensures bytes { λ _. ⌜ now (memory .exit) ≡ over (now (memory .entry)) 0 (packed head-widths (head-values segments closures)) ⌝ }
-    ensures behind { λ r. ⌜ r ≡ 26 ⌝ }
+    ensures { λ r. ⌜ Put (now (memory .entry)) 0 (head-bytes segments closures) (now (memory .exit)) r ⌝ }
 {
-    let segments_extent = 6 * segments as u32;
-    let closures_extent = 5 * closures as u32;
+    let segments_extent = SEGMENT_SIZE * segments as u32;
+    let closures_extent = CLOSURE_SIZE * closures as u32;
     let head = [
-        one_byte(1),
-        one_byte(3),
-        four_bytes(26),
-        four_bytes(7),
-        four_bytes(33),
+        one_byte(FORMAT as u16),
+        one_byte(SECTIONS as u16),
+        four_bytes(SETTINGS_START),
+        four_bytes(SETTINGS_SIZE),
+        four_bytes(SEGMENTS_START),
         four_bytes(segments_extent),
-        four_bytes(33 + segments_extent),
+        four_bytes(SEGMENTS_START + segments_extent),
         four_bytes(closures_extent),
     ];
     put_record(memory, 0, &head)
@@ -69,8 +73,7 @@ fn put_head(memory: &mut [u8], segments: u16, closures: u16) -> usize
 
 fn put_settings(memory: &mut [u8], place: usize, settings: Settings) -> usize
     requires { ⌜ place + 7 ≤ length (now memory) ⌝ }
-    ensures bytes { λ _. ⌜ now (memory .exit) ≡ over (now (memory .entry)) place (written settings-layout settings) ⌝ }
-    ensures behind { λ r. ⌜ r ≡ place + 7 ⌝ }
+    ensures { λ r. ⌜ Put (now (memory .entry)) place (written settings-layout settings) (now (memory .exit)) r ⌝ }
 {
     let record = [
         two_bytes(settings.slot_length),
@@ -83,8 +86,7 @@ fn put_settings(memory: &mut [u8], place: usize, settings: Settings) -> usize
 
 fn put_segment(memory: &mut [u8], place: usize, segment: Segment) -> usize
     requires { ⌜ place + 6 ≤ length (now memory) ⌝ }
-    ensures bytes { λ _. ⌜ now (memory .exit) ≡ over (now (memory .entry)) place (written segment-layout segment) ⌝ }
-    ensures behind { λ r. ⌜ r ≡ place + 6 ⌝ }
+    ensures { λ r. ⌜ Put (now (memory .entry)) place (written segment-layout segment) (now (memory .exit)) r ⌝ }
 {
     let record = [
         one_byte(segment.start),
@@ -98,8 +100,7 @@ fn put_segment(memory: &mut [u8], place: usize, segment: Segment) -> usize
 
 fn put_closure(memory: &mut [u8], place: usize, closure: Closure) -> usize
     requires { ⌜ place + 5 ≤ length (now memory) ⌝ }
-    ensures bytes { λ _. ⌜ now (memory .exit) ≡ over (now (memory .entry)) place (written closure-layout closure) ⌝ }
-    ensures behind { λ r. ⌜ r ≡ place + 5 ⌝ }
+    ensures { λ r. ⌜ Put (now (memory .entry)) place (written closure-layout closure) (now (memory .exit)) r ⌝ }
 {
     let record = [
         one_byte(closure.segment),
@@ -111,8 +112,7 @@ fn put_closure(memory: &mut [u8], place: usize, closure: Closure) -> usize
 
 fn put_segments(memory: &mut [u8], start: usize, segments: &[Segment]) -> usize
     requires { ⌜ start + length (written-all segment-layout (now segments)) ≤ length (now memory) ⌝ }
-    ensures bytes { λ _. ⌜ now (memory .exit) ≡ over (now (memory .entry)) start (written-all segment-layout (now (segments .entry))) ⌝ }
-    ensures behind { λ r. ⌜ r ≡ start + length (written-all segment-layout (now (segments .entry))) ⌝ }
+    ensures { λ r. ⌜ Put (now (memory .entry)) start (written-all segment-layout (now (segments .entry))) (now (memory .exit)) r ⌝ }
 {
     let mut place = start;
     for segment in segments {
@@ -123,8 +123,7 @@ fn put_segments(memory: &mut [u8], start: usize, segments: &[Segment]) -> usize
 
 fn put_closures(memory: &mut [u8], start: usize, closures: &[Closure]) -> usize
     requires { ⌜ start + length (written-all closure-layout (now closures)) ≤ length (now memory) ⌝ }
-    ensures bytes { λ _. ⌜ now (memory .exit) ≡ over (now (memory .entry)) start (written-all closure-layout (now (closures .entry))) ⌝ }
-    ensures behind { λ r. ⌜ r ≡ start + length (written-all closure-layout (now (closures .entry))) ⌝ }
+    ensures { λ r. ⌜ Put (now (memory .entry)) start (written-all closure-layout (now (closures .entry))) (now (memory .exit)) r ⌝ }
 {
     let mut place = start;
     for closure in closures {
@@ -140,8 +139,8 @@ pub fn write(plan: &Plan, memory: &mut [u8]) -> Result<usize, Fault>
 {
     let segments = plan.segment_count();
     let closures = plan.closure_count();
-    let size = 33 + 6 * segments as usize + 5 * closures as usize;
-    if memory.len() < size {
+    let size = SEGMENTS_START + SEGMENT_SIZE * segments as u32 + CLOSURE_SIZE * closures as u32;
+    if memory.len() < size as usize {
         return Err(Fault::outside_sheet(Refusal::MemoryTooShort));
     }
     let settings_start = put_head(memory, segments, closures);

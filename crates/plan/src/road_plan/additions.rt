@@ -1,10 +1,8 @@
 // Beginning a plan, and adding to it.
-ghost use mathlib.Core.Bool.{cond, false};
+ghost use mathlib.Core.Bool.{false};
 ghost use mathlib.Core.Path.{_≡_};
-ghost use lib.ListN.{length};
 ghost use Rattle.std.specs.Results.{isOk};
-ghost use Rattle.plan.specs.Content.{Begins, closure-addition, content, numbered, segment-addition, with-closure, with-segment};
-ghost use Rattle.plan.specs.Rules.{first-broken};
+ghost use Rattle.plan.specs.Content.{Begins, ClosureAdded, SegmentAdded, content};
 use super::Plan;
 use crate::limits::MOST_CLOSURES;
 use crate::limits::MOST_SEGMENTS;
@@ -39,8 +37,7 @@ impl Plan {
 
     // Adds a segment and answers its number.
     pub fn add_segment(&mut self, segment: Segment) -> Result<u16, Fault>
-        ensures answer { λ r. ⌜ r ≡ numbered (first-broken (segment-addition (content (now (self .entry))) segment)) (length (content (now (self .entry)) .segments)) ⌝ }
-        ensures after { λ r. ⌜ content (now (self .exit)) ≡ cond (isOk r) (with-segment (content (now (self .entry))) segment) (content (now (self .entry))) ⌝ }
+        ensures added { λ r. ⌜ SegmentAdded (content (now (self .entry))) segment r (content (now (self .exit))) ⌝ }
         ensures refused { λ r. ⌜ (isOk r ≡ false → now (self .exit) ≡ now (self .entry)) ⌝ }
     {
         let number = self.segments.len();
@@ -56,8 +53,7 @@ impl Plan {
 
     // Adds a closure and answers its number.
     pub fn add_closure(&mut self, closure: Closure) -> Result<u16, Fault>
-        ensures answer { λ r. ⌜ r ≡ numbered (first-broken (closure-addition (content (now (self .entry))) closure)) (length (content (now (self .entry)) .closures)) ⌝ }
-        ensures after { λ r. ⌜ content (now (self .exit)) ≡ cond (isOk r) (with-closure (content (now (self .entry))) closure) (content (now (self .entry))) ⌝ }
+        ensures added { λ r. ⌜ ClosureAdded (content (now (self .entry))) closure r (content (now (self .exit))) ⌝ }
         ensures refused { λ r. ⌜ (isOk r ≡ false → now (self .exit) ≡ now (self .entry)) ⌝ }
     {
         let number = self.closures.len();

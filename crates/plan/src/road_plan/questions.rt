@@ -2,10 +2,7 @@
 ghost use mathlib.Core.Path.{_≡_};
 ghost use lib.ListN.{length};
 ghost use Rattle.std.specs.Finite.{nth};
-ghost use Rattle.std.specs.Options.{mapped};
-ghost use Rattle.plan.specs.Content.{Fits, content};
-ghost use Rattle.plan.specs.Critical.{critical};
-ghost use Rattle.plan.specs.Travel.{travel};
+ghost use Rattle.plan.specs.Content.{Fits, content, critical-at, travel-at};
 use super::Plan;
 use crate::critical::critical_of;
 use crate::parts::Closure;
@@ -61,7 +58,7 @@ impl Plan {
 
     // How many slots a carrier takes for the segment.
     pub fn travel_slots(&self, number: u16) -> Option<u8>
-        ensures { λ r. ⌜ r ≡ mapped (travel (content (now (self .entry)) .settings)) (nth (content (now (self .entry)) .segments) number) ⌝ }
+        ensures { λ r. ⌜ r ≡ travel-at (content (now (self .entry))) number ⌝ }
     {
         let segment = self.segment(number)?;
         Some(travel_of(self.settings, segment) as u8)
@@ -69,7 +66,7 @@ impl Plan {
 
     // How many carriers the segment may carry at once.
     pub fn critical_count(&self, number: u16) -> Option<u8>
-        ensures { λ r. ⌜ r ≡ mapped (critical (content (now (self .entry)) .settings)) (nth (content (now (self .entry)) .segments) number) ⌝ }
+        ensures { λ r. ⌜ r ≡ critical-at (content (now (self .entry))) number ⌝ }
     {
         let segment = self.segment(number)?;
         Some(critical_of(self.settings, segment))

@@ -2,9 +2,9 @@ use borrow.Author.Needs.{needs}
 use Rattle.sheet.specs.Verdict.{extent-rules}
 use Rattle.sheet.proofs.head.extent_fault.Needs as need
 
-pub returns-then-pair-at-ne-SETTINGS-SIZE : need.returns-then-pair-at-ne-SETTINGS-SIZE
+pub returns-then-pair-at : need.returns-then-pair-at
 unfolding extent-rules
-returns-then-pair-at-ne-SETTINGS-SIZE c = search needs
+returns-then-pair-at c = search needs
 
 pub returns-then-not-holds-records : need.returns-then-not-holds-records
 unfolding extent-rules

@@ -7,9 +7,9 @@ use Rattle.sheet.specs.Verdict.{format-rules}
 use Rattle.sheet.proofs.ReadNumbers.{field-one, under-typed}
 use Rattle.sheet.proofs.head.format_fault.Needs as need
 
-pub returns-then-bytes-lt-HEAD-SIZE : need.returns-then-bytes-lt-HEAD-SIZE
+pub returns-then-bytes : need.returns-then-bytes
 unfolding format-rules
-returns-then-bytes-lt-HEAD-SIZE c = search needs
+returns-then-bytes c = search needs
 
 pub returns-then-bytes-ne-FORMAT : need.returns-then-bytes-ne-FORMAT
 unfolding format-rules

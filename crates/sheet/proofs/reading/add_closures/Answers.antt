@@ -27,7 +27,7 @@ returns-in-Break-add-closure c =
     subst (ClosuresLeft start whole before) (c .in-Some .ensures tt .1) (c .loop-closure .inv) in
     let taken = closure-taken start whole before (c .in-Some .closure) left all in
     let number = length (before .closures) in
-    let answer : c .add-closure .result ≡ Ok number = c .add-closure .ensures .answer ∙ ap (λ o. numbered o number) taken in
+    let answer : c .add-closure .result ≡ Ok number = c .add-closure .ensures .added .answer ∙ ap (λ o. numbered o number) taken in
     let refused = c .in-Break-add-closure .was tt in
     absurd (let z : _≡_ {A = ℕ} 0 1 = cc in omega arith)
 
@@ -41,7 +41,7 @@ loop-closure-again c =
     subst (ClosuresLeft start whole before) (c .in-Some .ensures tt .1) (c .loop-closure .inv) in
     let ok : isOk (c .add-closure .result) ≡ true = ap isOk (c .in-Continue-add-closure .was tt) in
     closures-left start whole before (c .in-Some .closure) left all (content (c .add-closure .last .self))
-    (c .add-closure .ensures .after ∙ cond-true (isOk (c .add-closure .result)) _ _ ok)
+    (c .add-closure .ensures .added .grown ∙ cond-true (isOk (c .add-closure .result)) _ _ ok)
 
 pub returns : need.returns
 returns c =

@@ -27,7 +27,7 @@ returns-in-Break-add-segment c =
     subst (SegmentsLeft start whole before) (c .in-Some .ensures tt .1) (c .loop-segment .inv) in
     let taken = segment-taken start whole before (c .in-Some .segment) left all in
     let number = length (before .segments) in
-    let answer : c .add-segment .result ≡ Ok number = c .add-segment .ensures .answer ∙ ap (λ o. numbered o number) taken in
+    let answer : c .add-segment .result ≡ Ok number = c .add-segment .ensures .added .answer ∙ ap (λ o. numbered o number) taken in
     let refused = c .in-Break-add-segment .was tt in
     absurd (let z : _≡_ {A = ℕ} 0 1 = cc in omega arith)
 
@@ -41,7 +41,7 @@ loop-segment-again c =
     subst (SegmentsLeft start whole before) (c .in-Some .ensures tt .1) (c .loop-segment .inv) in
     let ok : isOk (c .add-segment .result) ≡ true = ap isOk (c .in-Continue-add-segment .was tt) in
     segments-left start whole before (c .in-Some .segment) left all (content (c .add-segment .last .self))
-    (c .add-segment .ensures .after ∙ cond-true (isOk (c .add-segment .result)) _ _ ok)
+    (c .add-segment .ensures .added .grown ∙ cond-true (isOk (c .add-segment .result)) _ _ ok)
 
 pub returns : need.returns
 returns c =

@@ -35,11 +35,11 @@ loop-closure-again c =
     omega (arith, c .put-closure-place .ensures .behind, length-written closure-layout closure-faithful closure) in
     laying-next (written closure-layout) (c .args .closures .now) (c .args .memory .now) (c .args .start) (loop .closure-index)
     (loop .memory) (loop .place) no-closure (omega arith) (c .pre) (loop .inv) (c .put-closure-place .last .memory) (c .put-closure-place .result)
-    (c .put-closure-place .ensures .bytes) behind
+    (c .put-closure-place .ensures .written) behind
 
 pub returns : need.returns
 returns c =
     let loop = c .loop-closure in
     let all = laying-all (written closure-layout) (c .args .closures .now) (c .args .memory .now) (c .args .start) (loop .closure-index)
     (loop .memory) (loop .place) (omega arith) (loop .inv) in
-    record { bytes = all .0; behind = all .1 }
+    record { written = all .0; behind = all .1 }

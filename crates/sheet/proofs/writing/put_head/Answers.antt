@@ -17,6 +17,6 @@ returns c =
     ∷ c .four-bytes-2 .ensures i ∷ c .four-bytes-3 .ensures i ∷ c .four-bytes-4 .ensures i ∷ c .four-bytes-5 .ensures i
     ∷ c .four-bytes-6 .ensures i ∷ []) in
     record {
-      bytes = c .put-record .ensures .bytes ∙ ap (over (c .args .memory .now) 0) fields;
+      written = c .put-record .ensures .written ∙ ap (over (c .args .memory .now) 0) fields;
       behind = c .put-record .ensures .behind ∙ ap (λ bytes. 0 + length bytes) fields;
     }

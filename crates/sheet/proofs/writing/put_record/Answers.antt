@@ -48,4 +48,4 @@ returns c =
     let loop = c .loop-field in
     let all = laying-all field-bytes (c .args .fields .now) (c .args .memory .now) (c .args .start) (loop .field-index)
     (loop .memory) (loop .place) (omega arith) (loop .inv) in
-    record { bytes = all .0; behind = all .1 }
+    record { written = all .0; behind = all .1 }

@@ -35,11 +35,11 @@ loop-segment-again c =
     omega (arith, c .put-segment-place .ensures .behind, length-written segment-layout segment-faithful segment) in
     laying-next (written segment-layout) (c .args .segments .now) (c .args .memory .now) (c .args .start) (loop .segment-index)
     (loop .memory) (loop .place) no-segment (omega arith) (c .pre) (loop .inv) (c .put-segment-place .last .memory) (c .put-segment-place .result)
-    (c .put-segment-place .ensures .bytes) behind
+    (c .put-segment-place .ensures .written) behind
 
 pub returns : need.returns
 returns c =
     let loop = c .loop-segment in
     let all = laying-all (written segment-layout) (c .args .segments .now) (c .args .memory .now) (c .args .start) (loop .segment-index)
     (loop .memory) (loop .place) (omega arith) (loop .inv) in
-    record { bytes = all .0; behind = all .1 }
+    record { written = all .0; behind = all .1 }

@@ -51,14 +51,14 @@ returns c =
     let segments-place : c .put-settings-segments-start .result ≡ 33 = omega arith in
     let closures-place : c .put-segments-closures-start .result ≡ 33 + length (written-all segment-layout (plan .segments)) =
     omega (arith, ap length segments-same) in
-    let head-put = c .put-head-settings-start .ensures .bytes
+    let head-put = c .put-head-settings-start .ensures .written
     ∙ ap₂ (λ n m. over memory 0 (packed head-widths (head-values n m)))
     (c .segment-count-segments .ensures) (c .closure-count-closures .ensures) in
-    let settings-put = c .put-settings-segments-start .ensures .bytes
+    let settings-put = c .put-settings-segments-start .ensures .written
     ∙ ap₂ (λ p s. over after-head p (written settings-layout s)) settings-place (c .settings .ensures .value) in
-    let segments-put = c .put-segments-closures-start .ensures .bytes
+    let segments-put = c .put-segments-closures-start .ensures .written
     ∙ ap₂ (over after-settings) segments-place segments-same in
-    let closures-put = c .put-closures-end .ensures .bytes
+    let closures-put = c .put-closures-end .ensures .written
     ∙ ap₂ (over after-segments) closures-place closures-same in
     let room : 33 + length (written-all segment-layout (plan .segments)) + length (written-all closure-layout (plan .closures))
     ≤ length memory = omega (arith, segments-long, closures-long) in
