@@ -16,3 +16,4 @@ pub use refusals::Fault;
 pub use refusals::PlanError;
 pub use refusals::Refusal;
 pub use road_plan::Plan;
+pub use travel::class_speed;

@@ -25,8 +25,8 @@ const CLASS_SPEEDS: [u16; 16] = [
     2000,
 ];
 
-// 0 for a class that is none.
-fn class_speed(class: u8) -> u16
+// The speed of a class in centimetres a second, 0 for a class that is none.
+pub fn class_speed(class: u8) -> u16
     ensures value { λ r. ⌜ r ≡ speed class ⌝ }
     ensures bound { λ r. ⌜ r ≤ 2000 ⌝ }
 {
