@@ -87,5 +87,6 @@ critical-at c number = mapped (critical (c .settings)) (nth (c .segments) number
 -- what beginning a plan answers; want of memory is met only with settings in range
 abbrev pub Begins : Settings → Result Plan PlanError → Type 0
 Begins s (Ok p) = (first-broken (settings-rules s) ≡ None) × (content p ≡ bare s)
-Begins s (Err (error.Refused f)) = (isSome (first-broken (settings-rules s)) ≡ true) × (f ≡ outside refusal.SettingOutOfRange)
+Begins s (Err (error.Refused f)) =
+    (isSome (first-broken (settings-rules s)) ≡ true) × (f ≡ outside refusal.SettingOutOfRange)
 Begins s (Err error.NoMemory) = first-broken (settings-rules s) ≡ None

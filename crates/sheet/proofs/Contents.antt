@@ -3,17 +3,22 @@ use mathlib.Core.Bool.{Bool, true, _&&_}
 use mathlib.Core.List.{List, [], _∷_, _++_}
 use mathlib.Core.Path.{_≡_, refl, ap, sym, _∙_}
 use Prim.Native.Nat.{ℕ, _+_, _≤_}
+use denote.Ref.{RefT}
 use lib.ListN.{length}
 use Rattle.std.proofs.shelf.Tests.{and-from, and-parts}
 use Rattle.std.specs.Options.{mapped}
+use Rattle.std.specs.declared.option.Option.{Option}
 use Rattle.std.specs.declared.option.Option.the-variants.{Some, None}
 use Rattle.plan.specs.Content.{Content, Fits}
 use Rattle.plan.specs.Limits.{most-closures, most-segments}
 use Rattle.plan.specs.Ranges.{closure-rules, closures-fit, segment-rules, segments-fit, settings-fit, settings-rules}
 use Rattle.plan.specs.Rules.{Rule, every, first-broken, keeps, saying}
+use Rattle.plan.specs.declared.refusals.Fault.{Fault}
 use Rattle.plan.specs.declared.refusals.Refusal.{Refusal}
 use Rattle.plan.proofs.Ruling.{broken-first, broken-saying, broken-second, keeps-append, keeps-parts, keeps-saying}
 use Rattle.sheet.specs.Format.{closures-pair, offset, segments-pair, settings-pair}
+use Rattle.sheet.specs.Nexts.{Next}
+use Rattle.sheet.specs.Records.{Layout, size, told-all}
 use Rattle.sheet.specs.Verdict.{closures-rules, content-rules, fault, record-rules, segments-rules, setting-fault}
 
 module _ {A : Type 0} (rules : A → List (Rule Refusal)) (section size : ℕ) where
@@ -35,19 +40,31 @@ module _ {A : Type 0} (rules : A → List (Rule Refusal)) (section size : ℕ) w
       (sym (keeps-saying (fault section place) (rules a)) ∙ parts .0)
       (records-fit (place + size) items (parts .1))
 
-  -- the first record decides where it is at fault, and the others where it is not
-  pub record-broken : (place : ℕ) (a : A) (items : List A) (r : Refusal) → first-broken (rules a) ≡ Some r
-      → first-broken (record-rules rules section size place (a ∷ items)) ≡ Some (fault section place r)
-  record-broken place a items r broken =
-      broken-first (saying (fault section place) (rules a)) _ (fault section place r)
+-- records of a layout, one after the other from a place on: the first decides where it is at fault, and the others where
+-- it is not
+module _ {A : Type 0} (layout : Layout A) (rules : A → List (Rule Refusal)) (section : ℕ) where
+  abbrev decided : ℕ → List ℕ → Option Fault
+  decided place bytes = first-broken (record-rules rules section (size (layout .widths)) place (told-all layout bytes))
+
+  pub next-broken : (place : ℕ) (bytes : List ℕ) (a : A) (rest : RefT (List ℕ)) (r : Refusal)
+      → Next layout bytes (Some (a, rest)) → first-broken (rules a) ≡ Some r
+      → decided place bytes ≡ Some (fault section place r)
+  next-broken place bytes a rest r next broken =
+      ap (λ items. first-broken (record-rules rules section (size (layout .widths)) place items)) (next .1)
+      ∙ broken-first (saying (fault section place) (rules a)) _ (fault section place r)
       (broken-saying (fault section place) (rules a) ∙ ap (mapped (fault section place)) broken)
 
-  pub record-sound : (place : ℕ) (a : A) (items : List A) → first-broken (rules a) ≡ None
-      → first-broken (record-rules rules section size place (a ∷ items))
-      ≡ first-broken (record-rules rules section size (place + size) items)
-  record-sound place a items none =
-      broken-second (saying (fault section place) (rules a)) _
+  pub next-sound : (place : ℕ) (bytes : List ℕ) (a : A) (rest : RefT (List ℕ))
+      → Next layout bytes (Some (a, rest)) → first-broken (rules a) ≡ None
+      → decided place bytes ≡ decided (place + size (layout .widths)) (rest .now)
+  next-sound place bytes a rest next none =
+      ap (λ items. first-broken (record-rules rules section (size (layout .widths)) place items)) (next .1)
+      ∙ broken-second (saying (fault section place) (rules a)) _
       (broken-saying (fault section place) (rules a) ∙ ap (mapped (fault section place)) none)
+
+  pub none-left : (place : ℕ) (bytes : List ℕ) → Next layout bytes None → decided place bytes ≡ None
+  none-left place bytes next =
+      ap (λ items. first-broken (record-rules rules section (size (layout .widths)) place items)) (next .1)
 
 pub content-keeps : (bytes : List ℕ) (c : Content) → Fits c → keeps (content-rules bytes c) ≡ true
 unfolding content-rules segments-rules closures-rules settings-fit segments-fit closures-fit

@@ -71,8 +71,10 @@ horizon-few s fit = grind (arith, tells)
 segment-narrow : (s : Settings) → s .junctions ≤ 64 → (g : Segment) → keeps (segment-rules s g) ≡ true
     → Narrow (segment-layout .widths) (segment-layout .values g)
 unfolding segment-rules
-segment-narrow s few g fit =
-    (grind (arith, tells), (grind (arith, tells), (grind (arith, tells), (grind (arith, tells), (grind (arith, tells), tt)))))
+segment-narrow s few g fit = (
+  grind (arith, tells),
+  (grind (arith, tells), (grind (arith, tells), (grind (arith, tells), (grind (arith, tells), tt)))),
+)
 
 pub segments-narrow : (s : Settings) (gs : List Segment) → settings-fit s ≡ true → segments-fit s gs ≡ true
     → All (λ g. Narrow (segment-layout .widths) (segment-layout .values g)) gs

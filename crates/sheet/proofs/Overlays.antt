@@ -79,7 +79,8 @@ module _ {X : Type 0} (bytes-of : X → List ℕ) where
   joined-append : (xs ys : List X) → joined bytes-of (xs ++ ys) ≡ joined bytes-of xs ++ joined bytes-of ys
   joined-append [] ys = refl
   joined-append (x ∷ xs) ys =
-      ap (λ bs. bytes-of x ++ bs) (joined-append xs ys) ∙ sym (append-assoc (bytes-of x) (joined bytes-of xs) (joined bytes-of ys))
+      ap (λ bs. bytes-of x ++ bs) (joined-append xs ys)
+      ∙ sym (append-assoc (bytes-of x) (joined bytes-of xs) (joined bytes-of ys))
 
   joined-next : (xs : List X) (k : ℕ) (d : X) → k < length xs
       → joined bytes-of (take (k + 1) xs) ≡ joined bytes-of (take k xs) ++ bytes-of (getD xs k d)
@@ -88,51 +89,59 @@ module _ {X : Type 0} (bytes-of : X → List ℕ) where
       ∙ joined-append (take k xs) (getD xs k d ∷ [])
       ∙ ap (λ bs. joined bytes-of (take k xs) ++ bs) (append-nil (bytes-of (getD xs k d)))
 
-  -- the first k elements have been written from a start on, and a place is behind them
-  pub record Laying (xs : List X) (before : List ℕ) (start k : ℕ) (memory : List ℕ) (place : ℕ) : Type 0 where
-    pub bytes : memory ≡ over before start (joined bytes-of (take k xs))
-    pub behind : place ≡ start + length (joined bytes-of (take k xs))
+-- the first k elements have been written from a start on, and a place is behind them
+pub record Laying {X : Type 0} (bytes-of : X → List ℕ) (xs : List X) (before : List ℕ) (start k : ℕ) (memory : List ℕ)
+    (place : ℕ) : Type 0 where
+  pub bytes : memory ≡ over before start (joined bytes-of (take k xs))
+  pub behind : place ≡ start + length (joined bytes-of (take k xs))
 
-  pub laying-none : (xs : List X) (before : List ℕ) (start : ℕ) → Laying xs before start 0 before start
-  laying-none xs before start = record { bytes = sym (over-none before start); behind = sym (add-zero start) }
+pub laying-none : {X : Type 0} (bytes-of : X → List ℕ) (xs : List X) (before : List ℕ) (start : ℕ)
+    → Laying bytes-of xs before start 0 before start
+laying-none bytes-of xs before start = record { bytes = sym (over-none before start); behind = sym (add-zero start) }
 
-  module _ (xs : List X) (before : List ℕ) (start k : ℕ) (memory : List ℕ) (place : ℕ) (d : X) (within : k < length xs)
-      (room : start + length (joined bytes-of xs) ≤ length before) (laying : Laying xs before start k memory place) where
-    next-room : start + length (joined bytes-of (take k xs)) + length (bytes-of (getD xs k d)) ≤ length before
-    next-room =
-        let next = ap length (joined-next xs k d within) in
-        let parts = length-append (joined bytes-of (take k xs)) (bytes-of (getD xs k d)) in
-        let split = ap (λ ys. length (joined bytes-of ys)) (sym (take-append-drop (k + 1) xs)) in
-        let whole = ap length (joined-append (take (k + 1) xs) (drop (k + 1) xs)) in
-        let sum = length-append (joined bytes-of (take (k + 1) xs)) (joined bytes-of (drop (k + 1) xs)) in
-        omega (arith, next, parts, split, whole, sum)
+next-room : {X : Type 0} (bytes-of : X → List ℕ) (xs : List X) (before : List ℕ) (start k : ℕ) (d : X)
+    → k < length xs → start + length (joined bytes-of xs) ≤ length before
+    → start + length (joined bytes-of (take k xs)) + length (bytes-of (getD xs k d)) ≤ length before
+next-room bytes-of xs before start k d within room =
+    let next = ap length (joined-next bytes-of xs k d within) in
+    let parts = length-append (joined bytes-of (take k xs)) (bytes-of (getD xs k d)) in
+    let split = ap (λ ys. length (joined bytes-of ys)) (sym (take-append-drop (k + 1) xs)) in
+    let whole = ap length (joined-append bytes-of (take (k + 1) xs) (drop (k + 1) xs)) in
+    let sum = length-append (joined bytes-of (take (k + 1) xs)) (joined bytes-of (drop (k + 1) xs)) in
+    omega (arith, next, parts, split, whole, sum)
 
-    -- the next element has room
-    pub laying-room : place + length (bytes-of (getD xs k d)) ≤ length before
-    laying-room = let behind = laying .behind in omega (arith, next-room)
+-- the next element has room
+pub laying-room : {X : Type 0} {bytes-of : X → List ℕ} {xs : List X} {before : List ℕ} {start k : ℕ} {memory : List ℕ}
+    {place : ℕ} (d : X) → k < length xs → start + length (joined bytes-of xs) ≤ length before
+    → Laying bytes-of xs before start k memory place → place + length (bytes-of (getD xs k d)) ≤ length before
+laying-room {bytes-of = bytes-of} {xs = xs} {before = before} {start = start} {k = k} d within room laying =
+    let behind = laying .behind in omega (arith, next-room bytes-of xs before start k d within room)
 
-    pub laying-next : (after : List ℕ) (behind : ℕ) → after ≡ over memory place (bytes-of (getD xs k d))
-        → behind ≡ place + length (bytes-of (getD xs k d)) → Laying xs before start (k + 1) after behind
-    laying-next after behind written place-behind =
-        let first = joined bytes-of (take k xs) in
-        let second = bytes-of (getD xs k d) in
-        record {
-          bytes =
-              written
-              ∙ ap₂ (λ m p. over m p second) (laying .bytes) (laying .behind)
-              ∙ over-over before start first second next-room
-              ∙ ap (over before start) (sym (joined-next xs k d within));
-          behind =
-              let next = ap length (joined-next xs k d within) in
-              let was = laying .behind in
-              omega (arith, next, was, length-append first second);
-        }
+pub laying-next : {X : Type 0} {bytes-of : X → List ℕ} {xs : List X} {before : List ℕ} {start k : ℕ} {memory : List ℕ}
+    {place : ℕ} (d : X) → k < length xs → start + length (joined bytes-of xs) ≤ length before
+    → Laying bytes-of xs before start k memory place
+    → {after : List ℕ} {behind : ℕ} → after ≡ over memory place (bytes-of (getD xs k d))
+    → behind ≡ place + length (bytes-of (getD xs k d)) → Laying bytes-of xs before start (k + 1) after behind
+laying-next {bytes-of = bytes-of} {xs = xs} {before = before} {start = start} {k = k} d within room laying put place-behind =
+    let first = joined bytes-of (take k xs) in
+    let second = bytes-of (getD xs k d) in
+    record {
+      bytes =
+          put
+          ∙ ap₂ (λ m p. over m p second) (laying .bytes) (laying .behind)
+          ∙ over-over before start first second (next-room bytes-of xs before start k d within room)
+          ∙ ap (over before start) (sym (joined-next bytes-of xs k d within));
+      behind =
+          let next = ap length (joined-next bytes-of xs k d within) in
+          let was = laying .behind in
+          omega (arith, next, was, length-append first second);
+    }
 
-  pub laying-all : (xs : List X) (before : List ℕ) (start k : ℕ) (memory : List ℕ) (place : ℕ) → length xs ≤ k
-      → Laying xs before start k memory place
-      → (memory ≡ over before start (joined bytes-of xs)) × (place ≡ start + length (joined bytes-of xs))
-  laying-all xs before start k memory place all laying =
-      let whole = take-all k xs all in (
-        laying .bytes ∙ ap (λ ys. over before start (joined bytes-of ys)) whole,
-        laying .behind ∙ ap (λ ys. start + length (joined bytes-of ys)) whole,
-      )
+pub laying-all : {X : Type 0} {bytes-of : X → List ℕ} {xs : List X} {before : List ℕ} {start k : ℕ} {memory : List ℕ}
+    {place : ℕ} → length xs ≤ k → Laying bytes-of xs before start k memory place
+    → (memory ≡ over before start (joined bytes-of xs)) × (place ≡ start + length (joined bytes-of xs))
+laying-all {bytes-of = bytes-of} {xs = xs} {before = before} {start = start} {k = k} all laying =
+    let whole = take-all k xs all in (
+      laying .bytes ∙ ap (λ ys. over before start (joined bytes-of ys)) whole,
+      laying .behind ∙ ap (λ ys. start + length (joined bytes-of ys)) whole,
+    )

@@ -107,7 +107,8 @@ module _ (c : Content) (fits : Fits c) where
   decoded-settings : told settings-layout (section settings-pair (encode c)) ≡ c .settings
   decoded-settings =
       ap (told settings-layout) (settings-section ∙ sym (append-nil (written settings-layout (c .settings))))
-      ∙ told-written settings-layout settings-faithful (c .settings) [] (settings-narrow (c .settings) (fits .settings-in-range))
+      ∙ told-written settings-layout settings-faithful (c .settings) []
+      (settings-narrow (c .settings) (fits .settings-in-range))
 
   decoded-segments : told-all segment-layout (section segments-pair (encode c)) ≡ c .segments
   decoded-segments =
@@ -145,7 +146,8 @@ abbrev fields : List ℕ → ℕ → List ℕ → List ℕ
 fields [] place bytes = []
 fields (width ∷ widths) place bytes = field width place bytes ∷ fields widths (place + width) bytes
 
-unpacked-fields : (widths : List ℕ) (place : ℕ) (bytes : List ℕ) → unpacked widths (drop place bytes) ≡ fields widths place bytes
+unpacked-fields : (widths : List ℕ) (place : ℕ) (bytes : List ℕ)
+    → unpacked widths (drop place bytes) ≡ fields widths place bytes
 unpacked-fields [] place bytes = refl
 unpacked-fields (width ∷ widths) place bytes =
     ap (λ ns. field width place bytes ∷ ns)

@@ -25,7 +25,8 @@ fn add_segments(plan: &mut Plan, section: &[u8]) -> Result<(), Fault>
     requires fit { ⌜ segments-fit (content (now plan) .settings) (segments-in (now section)) ≡ true ⌝ }
     requires room { ⌜ length (content (now plan) .segments) + length (segments-in (now section)) ≤ most-segments ⌝ }
     ensures done { λ r. ⌜ r ≡ Ok tt ⌝ }
-    ensures after { λ _. ⌜ content (now (plan .exit)) ≡ with-segments (content (now (plan .entry))) (segments-in (now (section .entry))) ⌝ }
+    ensures after { λ _. ⌜ content (now (plan .exit))
+        ≡ with-segments (content (now (plan .entry))) (segments-in (now (section .entry))) ⌝ }
 {
     let mut rest = section;
     while let Some((segment, after)) = next_segment(rest) {
@@ -37,10 +38,12 @@ fn add_segments(plan: &mut Plan, section: &[u8]) -> Result<(), Fault>
 
 // Adds every closure of a section that has been checked.
 fn add_closures(plan: &mut Plan, section: &[u8]) -> Result<(), Fault>
-    requires fit { ⌜ closures-fit (content (now plan) .settings) (length (content (now plan) .segments)) (closures-in (now section)) ≡ true ⌝ }
+    requires fit { ⌜ closures-fit (content (now plan) .settings) (length (content (now plan) .segments))
+        (closures-in (now section)) ≡ true ⌝ }
     requires room { ⌜ length (content (now plan) .closures) + length (closures-in (now section)) ≤ most-closures ⌝ }
     ensures done { λ r. ⌜ r ≡ Ok tt ⌝ }
-    ensures after { λ _. ⌜ content (now (plan .exit)) ≡ with-closures (content (now (plan .entry))) (closures-in (now (section .entry))) ⌝ }
+    ensures after { λ _. ⌜ content (now (plan .exit))
+        ≡ with-closures (content (now (plan .entry))) (closures-in (now (section .entry))) ⌝ }
 {
     let mut rest = section;
     while let Some((closure, after)) = next_closure(rest) {

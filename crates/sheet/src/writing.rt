@@ -112,7 +112,8 @@ fn put_closure(memory: &mut [u8], place: usize, closure: Closure) -> usize
 
 fn put_segments(memory: &mut [u8], start: usize, segments: &[Segment]) -> usize
     requires { ⌜ start + length (written-all segment-layout (now segments)) ≤ length (now memory) ⌝ }
-    ensures { λ r. ⌜ Put (now (memory .entry)) start (written-all segment-layout (now (segments .entry))) (now (memory .exit)) r ⌝ }
+    ensures { λ r. ⌜ Put (now (memory .entry)) start (written-all segment-layout (now (segments .entry)))
+        (now (memory .exit)) r ⌝ }
 {
     let mut place = start;
     for segment in segments {
@@ -123,7 +124,8 @@ fn put_segments(memory: &mut [u8], start: usize, segments: &[Segment]) -> usize
 
 fn put_closures(memory: &mut [u8], start: usize, closures: &[Closure]) -> usize
     requires { ⌜ start + length (written-all closure-layout (now closures)) ≤ length (now memory) ⌝ }
-    ensures { λ r. ⌜ Put (now (memory .entry)) start (written-all closure-layout (now (closures .entry))) (now (memory .exit)) r ⌝ }
+    ensures { λ r. ⌜ Put (now (memory .entry)) start (written-all closure-layout (now (closures .entry)))
+        (now (memory .exit)) r ⌝ }
 {
     let mut place = start;
     for closure in closures {

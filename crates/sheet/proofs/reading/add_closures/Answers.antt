@@ -27,7 +27,8 @@ returns-in-Break-add-closure c =
     subst (ClosuresLeft start whole before) (c .in-Some .ensures tt .1) (c .loop-closure .inv) in
     let taken = closure-taken start whole before (c .in-Some .closure) left all in
     let number = length (before .closures) in
-    let answer : c .add-closure .result ≡ Ok number = c .add-closure .ensures .added .answer ∙ ap (λ o. numbered o number) taken in
+    let answer : c .add-closure .result ≡ Ok number =
+    c .add-closure .ensures .added .answer ∙ ap (λ o. numbered o number) taken in
     let refused = c .in-Break-add-closure .was tt in
     absurd (let z : _≡_ {A = ℕ} 0 1 = cc in omega arith)
 
@@ -48,6 +49,7 @@ returns c =
     record {
       done = refl;
       after =
-          closures-done (content (c .args .plan .now)) (told-all closure-layout (c .args .section .now)) (content (c .loop-closure .plan))
+          closures-done (content (c .args .plan .now)) (told-all closure-layout (c .args .section .now))
+          (content (c .loop-closure .plan))
           (told-all closure-layout (c .loop-closure .rest .now)) (c .loop-closure .inv) (c .in-rest .ensures tt .1);
     }

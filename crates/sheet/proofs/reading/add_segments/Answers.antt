@@ -27,7 +27,8 @@ returns-in-Break-add-segment c =
     subst (SegmentsLeft start whole before) (c .in-Some .ensures tt .1) (c .loop-segment .inv) in
     let taken = segment-taken start whole before (c .in-Some .segment) left all in
     let number = length (before .segments) in
-    let answer : c .add-segment .result ≡ Ok number = c .add-segment .ensures .added .answer ∙ ap (λ o. numbered o number) taken in
+    let answer : c .add-segment .result ≡ Ok number =
+    c .add-segment .ensures .added .answer ∙ ap (λ o. numbered o number) taken in
     let refused = c .in-Break-add-segment .was tt in
     absurd (let z : _≡_ {A = ℕ} 0 1 = cc in omega arith)
 
@@ -48,6 +49,7 @@ returns c =
     record {
       done = refl;
       after =
-          segments-done (content (c .args .plan .now)) (told-all segment-layout (c .args .section .now)) (content (c .loop-segment .plan))
+          segments-done (content (c .args .plan .now)) (told-all segment-layout (c .args .section .now))
+          (content (c .loop-segment .plan))
           (told-all segment-layout (c .loop-segment .rest .now)) (c .loop-segment .inv) (c .in-rest .ensures tt .1);
     }

@@ -17,7 +17,8 @@ returns-in-Break-plan c =
     let bytes = c .args .bytes .now in
     let split = c .in-Ok .ensures tt in
     let none = sym (c .in-rest .ensures tt bytes split) in
-    let failed = begin-failed bytes (c .in-Ok .sections) split none (c .in-Break-plan .field-0 .0) (c .in-Break-plan .ensures tt) in
+    let failed = begin-failed bytes (c .in-Ok .sections) split none (c .in-Break-plan .field-0 .0)
+    (c .in-Break-plan .ensures tt) in
     let error = err-from-errBy (c .from-residual .result) (c .from-residual .ensures .1) in
     rw (error .1, error .2) failed
 

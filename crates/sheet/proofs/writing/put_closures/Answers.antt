@@ -22,8 +22,7 @@ put-closure-place-requires c κs =
     let loop = c .loop-closure in
     let closure = getD (c .args .closures .now) (loop .closure-index) no-closure in
     let room : loop .place + length (written closure-layout closure) ≤ length (c .args .memory .now) =
-    laying-room (written closure-layout) (c .args .closures .now) (c .args .memory .now) (c .args .start) (loop .closure-index)
-    (loop .memory) (loop .place) no-closure (omega arith) (c .pre) (loop .inv) in
+    laying-room no-closure (omega arith) (c .pre) (loop .inv) in
     omega (arith, length-written closure-layout closure-faithful closure)
 
 pub loop-closure-again : need.loop-closure-again
@@ -33,13 +32,8 @@ loop-closure-again c =
     let closure = getD (c .args .closures .now) (loop .closure-index) no-closure in
     let behind : c .put-closure-place .result ≡ loop .place + length (written closure-layout closure) =
     omega (arith, c .put-closure-place .ensures .behind, length-written closure-layout closure-faithful closure) in
-    laying-next (written closure-layout) (c .args .closures .now) (c .args .memory .now) (c .args .start) (loop .closure-index)
-    (loop .memory) (loop .place) no-closure (omega arith) (c .pre) (loop .inv) (c .put-closure-place .last .memory) (c .put-closure-place .result)
-    (c .put-closure-place .ensures .written) behind
+    laying-next no-closure (omega arith) (c .pre) (loop .inv) (c .put-closure-place .ensures .written) behind
 
 pub returns : need.returns
 returns c =
-    let loop = c .loop-closure in
-    let all = laying-all (written closure-layout) (c .args .closures .now) (c .args .memory .now) (c .args .start) (loop .closure-index)
-    (loop .memory) (loop .place) (omega arith) (loop .inv) in
-    record { written = all .0; behind = all .1 }
+    let all = laying-all (omega arith) (c .loop-closure .inv) in record { written = all .0; behind = all .1 }

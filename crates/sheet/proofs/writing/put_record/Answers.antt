@@ -1,4 +1,4 @@
-use mathlib.Core.Path.{_≡_, ap, sym, _∙_}
+use mathlib.Core.Path.{_≡_}
 use native.Mathlib.Omega.{arith}
 use Prim.Native.Nat.{_+_, _≤_}
 use lib.ListN.{getD, length}
@@ -20,8 +20,7 @@ put-number-requires c κs =
     let loop = c .loop-field in
     let field = getD (c .args .fields .now) (loop .field-index) no-field in
     let room : loop .place + length (field-bytes field) ≤ length (c .args .memory .now) =
-    laying-room field-bytes (c .args .fields .now) (c .args .memory .now) (c .args .start) (loop .field-index)
-    (loop .memory) (loop .place) no-field (omega arith) (c .pre) (loop .inv) in
+    laying-room no-field (omega arith) (c .pre) (loop .inv) in
     omega (arith, length-big-endian (field .width) (field .value))
 
 pub add-place : need.add-place
@@ -30,22 +29,16 @@ add-place c =
     let loop = c .loop-field in
     let field = getD (c .args .fields .now) (loop .field-index) no-field in
     let room : loop .place + length (field-bytes field) ≤ length (c .args .memory .now) =
-    laying-room field-bytes (c .args .fields .now) (c .args .memory .now) (c .args .start) (loop .field-index)
-    (loop .memory) (loop .place) no-field (omega arith) (c .pre) (loop .inv) in
+    laying-room no-field (omega arith) (c .pre) (loop .inv) in
     omega (arith, length-big-endian (field .width) (field .value))
 
 pub loop-field-again : need.loop-field-again
 unfolding no-field
 loop-field-again c =
-    let loop = c .loop-field in
-    let field = getD (c .args .fields .now) (loop .field-index) no-field in
-    laying-next field-bytes (c .args .fields .now) (c .args .memory .now) (c .args .start) (loop .field-index)
-    (loop .memory) (loop .place) no-field (omega arith) (c .pre) (loop .inv) (c .put-number .last .memory) _
-    (c .put-number .ensures) (omega (arith, length-big-endian (field .width) (field .value)))
+    let field = getD (c .args .fields .now) (c .loop-field .field-index) no-field in
+    laying-next no-field (omega arith) (c .pre) (c .loop-field .inv) (c .put-number .ensures)
+    (omega (arith, length-big-endian (field .width) (field .value)))
 
 pub returns : need.returns
 returns c =
-    let loop = c .loop-field in
-    let all = laying-all field-bytes (c .args .fields .now) (c .args .memory .now) (c .args .start) (loop .field-index)
-    (loop .memory) (loop .place) (omega arith) (loop .inv) in
-    record { written = all .0; behind = all .1 }
+    let all = laying-all (omega arith) (c .loop-field .inv) in record { written = all .0; behind = all .1 }

@@ -22,8 +22,7 @@ put-segment-place-requires c κs =
     let loop = c .loop-segment in
     let segment = getD (c .args .segments .now) (loop .segment-index) no-segment in
     let room : loop .place + length (written segment-layout segment) ≤ length (c .args .memory .now) =
-    laying-room (written segment-layout) (c .args .segments .now) (c .args .memory .now) (c .args .start) (loop .segment-index)
-    (loop .memory) (loop .place) no-segment (omega arith) (c .pre) (loop .inv) in
+    laying-room no-segment (omega arith) (c .pre) (loop .inv) in
     omega (arith, length-written segment-layout segment-faithful segment)
 
 pub loop-segment-again : need.loop-segment-again
@@ -33,13 +32,8 @@ loop-segment-again c =
     let segment = getD (c .args .segments .now) (loop .segment-index) no-segment in
     let behind : c .put-segment-place .result ≡ loop .place + length (written segment-layout segment) =
     omega (arith, c .put-segment-place .ensures .behind, length-written segment-layout segment-faithful segment) in
-    laying-next (written segment-layout) (c .args .segments .now) (c .args .memory .now) (c .args .start) (loop .segment-index)
-    (loop .memory) (loop .place) no-segment (omega arith) (c .pre) (loop .inv) (c .put-segment-place .last .memory) (c .put-segment-place .result)
-    (c .put-segment-place .ensures .written) behind
+    laying-next no-segment (omega arith) (c .pre) (loop .inv) (c .put-segment-place .ensures .written) behind
 
 pub returns : need.returns
 returns c =
-    let loop = c .loop-segment in
-    let all = laying-all (written segment-layout) (c .args .segments .now) (c .args .memory .now) (c .args .start) (loop .segment-index)
-    (loop .memory) (loop .place) (omega arith) (loop .inv) in
-    record { written = all .0; behind = all .1 }
+    let all = laying-all (omega arith) (c .loop-segment .inv) in record { written = all .0; behind = all .1 }

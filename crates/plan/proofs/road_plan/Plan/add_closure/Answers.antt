@@ -13,7 +13,8 @@ pub ghost-self : need.ghost-self
 ghost-self c =
     let plan = c .args .self .now in
     let after = c .push-reserved .last .self in
-    let none : first-broken (closure-rules (plan .settings) (vec-len (plan .segments)) (c .args .closure)) ≡ None = search needs in
+    let none : first-broken (closure-rules (plan .settings) (vec-len (plan .segments)) (c .args .closure)) ≡ None =
+    search needs in
     let pushed = closures-fit-push (plan .settings) _ _ (c .args .closure) (plan .«closures_in_range») none in
     let closures : closures-fit (plan .settings) (vec-len (plan .segments)) (vec-items after) ≡ true =
     rw (c .push-reserved .ensures .items) pushed in
