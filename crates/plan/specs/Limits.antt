@@ -1,4 +1,4 @@
--- The named limits of plans. src/limits.rt has the same numbers for the code.
+-- The named limits of plans and books. src/limits.rt has the same numbers for the code.
 use Prim.Native.Nat.{ℕ}
 
 abbrev pub most-junctions : ℕ
@@ -21,3 +21,6 @@ most-travel = 64
 
 abbrev pub most-count : ℕ
 most-count = 255
+
+abbrev pub most-legs : ℕ
+most-legs = 1024

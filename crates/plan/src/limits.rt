@@ -13,3 +13,5 @@ pub const MOST_CLASS: u8 = 15;
 pub const MOST_TRAVEL: u64 = 64;
 
 pub const MOST_COUNT: u64 = 255;
+
+pub const MOST_LEGS: u16 = 1024;

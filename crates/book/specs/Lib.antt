@@ -1,0 +1,6 @@
+pub mod Below
+pub mod Meaning
+pub mod Loads
+pub mod Calls
+pub mod Laws
+pub mod Examples
