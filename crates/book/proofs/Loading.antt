@@ -131,3 +131,17 @@ total-counts m l known entered =
     let point = sum-point (segments m) (l .segment) 1 in
     let there = lt-ltb (l .segment) (segments m) known in
     grind (arith, all, parts, point, there)
+
+-- ---- what an admissible leg has
+
+pub admitted-known : (m : Meaning) (l : Leg) → admissible m l ≡ true → l .segment < segments m
+unfolding admissible
+admitted-known m l admitted = ltb-true (l .segment) (segments m) (and-parts (ltb (l .segment) (segments m)) _ admitted .0)
+
+pub admitted-within : (m : Meaning) (l : Leg) → admissible m l ≡ true
+    → l .entry + road m (l .segment) .slots ≤ horizon m
+unfolding admissible
+admitted-within m l admitted =
+    let end = l .entry + road m (l .segment) .slots in
+    let known = and-parts (ltb (l .segment) (segments m)) _ admitted .1 in
+    leb-true end (horizon m) (and-parts (leb end (horizon m)) _ known .0)

@@ -4,3 +4,5 @@ pub mod Loads
 pub mod Calls
 pub mod Laws
 pub mod Examples
+pub mod Layered
+pub mod Rooms

@@ -2,6 +2,7 @@
 pub mod books;
 pub mod laws;
 pub mod legs;
+pub mod rooms;
 
 pub use books::Book;
 pub use legs::Leg;
