@@ -65,10 +65,10 @@ load-one n l i u t =
     grind (arith, step, point)
 
 -- an admissible leg's slots have room
-pub room-held : (m : Meaning) (l : Leg) (t : ℕ) → admissible m l ≡ true
+admitted-slots-have-room : (m : Meaning) (l : Leg) (t : ℕ) → admissible m l ≡ true
     → holds (l .entry) (road m (l .segment) .slots) t ≡ true → load m (l .segment) t < road m (l .segment) .count
 unfolding admissible has-room
-room-held m l t admitted held =
+admitted-slots-have-room m l t admitted held =
     let i = l .segment in
     let u = road m i .slots in
     let test : ℕ → Bool = λ k. ltb (load m i (l .entry + k)) (road m i .count) in
@@ -92,7 +92,7 @@ within-plus m l within admitted i t =
     let lone = load-one (horizon m) l (l .segment) u t in
     let was = within (l .segment) t in
     ⊎-elim
-    (λ held. let room = room-held m l t admitted held in grind (arith, sum, lone, room, held))
+    (λ held. let room = admitted-slots-have-room m l t admitted held in grind (arith, sum, lone, room, held))
     (λ free. grind (arith, sum, lone, was, free))
     (cases-bool (holds (l .entry) u t)) in
     subst (λ j. load (plus m l) j t ≤ road m j .count) same at)

@@ -10,7 +10,7 @@ use std::rt::Files;
 
 // Fills the memory from its start with what the file begins with, and answers how many bytes that are: none where the
 // file is absent.
-pub fn read_start<R: Files>(rt: &R, path: &str, memory: &mut [u8]) -> io::Result<usize>
+pub(crate) fn read_start<R: Files>(rt: &R, path: &str, memory: &mut [u8]) -> io::Result<usize>
     ensures { λ r. ⌜ made r (λ n. n ≤ length (now (memory .exit))) ⌝ }
 {
     let mut file = match fs::open(rt, path) {

@@ -1,7 +1,7 @@
 // The refusals in words.
 use plan::Refusal;
 
-pub fn name(refusal: Refusal) -> &'static str {
+pub(crate) fn name(refusal: Refusal) -> &'static str {
     match refusal {
         Refusal::SheetTooShort => "the sheet has fewer than 26 bytes",
         Refusal::FormatUnknown => "the format is unknown",

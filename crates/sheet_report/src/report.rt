@@ -74,7 +74,7 @@ fn total_closed(plan: &Plan) -> u64 {
     total
 }
 
-pub fn print_plan(rt: &impl Print, plan: &Plan, bytes: usize) -> io::Result<()> {
+pub(crate) fn print_plan(rt: &impl Print, plan: &Plan, bytes: usize) -> io::Result<()> {
     println!(rt, "Road sheet of {bytes} bytes")?;
     println!(rt)?;
     print_settings(rt, plan)?;
@@ -93,7 +93,7 @@ pub fn print_plan(rt: &impl Print, plan: &Plan, bytes: usize) -> io::Result<()> 
     )
 }
 
-pub fn print_fault(rt: &impl Print, fault: Fault) -> io::Result<()> {
+pub(crate) fn print_fault(rt: &impl Print, fault: Fault) -> io::Result<()> {
     let number = fault.refusal.number();
     let words = name(fault.refusal);
     println!(
