@@ -1,4 +1,6 @@
 // What a book of legs is, whatever it keeps them in.
+#![tactic(auto)]
+
 pub mod books;
 pub mod laws;
 pub mod legs;

@@ -1,5 +1,7 @@
 // Times the two questions that a search asks most, of both bottom books: by a book's own way, and by the bodies that the
 // trait gives. Writes how many entries were found to standard output, and the microseconds to standard error.
+#![tactic(auto)]
+
 mod plain;
 mod work;
 

@@ -1,4 +1,6 @@
 // Cases of the two bottom books, with expected values worked out by hand.
+#![tactic(auto)]
+
 #[cfg(test)]
 mod alike;
 #[cfg(test)]

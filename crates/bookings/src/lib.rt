@@ -1,4 +1,6 @@
 // Bookings: their states, what is asked of a controller and what it answers, and the register that keeps them.
+#![tactic(auto)]
+
 pub mod calls;
 pub mod legs;
 pub mod register;

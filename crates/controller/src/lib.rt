@@ -1,4 +1,6 @@
 // A controller of routes over any book: it grants requests, and follows each booking by its token until it ends.
+#![tactic(auto)]
+
 pub mod controller;
 pub mod events;
 pub mod timings;

@@ -1,4 +1,6 @@
 // The leg book: one lent record for each standing leg.
+#![tactic(auto)]
+
 pub mod leg_record;
 pub mod legs;
 

@@ -1,4 +1,6 @@
 // The road plan: its settings, segments and closures, and what follows from them.
+#![tactic(auto)]
+
 mod critical;
 pub mod laws;
 pub mod limits;

@@ -1,4 +1,6 @@
 // Lists of calls on controllers: on one, and on two side by side.
+#![tactic(auto)]
+
 mod acting;
 pub mod both;
 mod calling;

@@ -1,4 +1,6 @@
 // The search for the route that a request is granted, over any book.
+#![tactic(auto)]
+
 mod earliest;
 pub mod entries;
 pub mod finding;

@@ -1,4 +1,6 @@
 // The road sheet: a plan as bytes.
+#![tactic(auto)]
+
 mod checking;
 pub mod export;
 mod fields;

@@ -1,4 +1,6 @@
 // Cases of plans and sheets, with expected values worked out by hand.
+#![tactic(auto)]
+
 #[cfg(test)]
 mod additions;
 #[cfg(test)]

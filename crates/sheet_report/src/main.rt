@@ -1,4 +1,6 @@
 // Reads the road sheet `plan.bin` in the current folder and prints the plan that it means, or why it is refused.
+#![tactic(auto)]
+
 mod input;
 mod names;
 mod report;

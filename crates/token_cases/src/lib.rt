@@ -1,4 +1,6 @@
 // A client that follows a booking by its tokens, over any book. It lets none go: whoever calls it has the token after.
+#![tactic(auto)]
+
 ghost use Rattle.token_cases.specs.Tokens.{SetsOut};
 
 use book::Book;

@@ -1,4 +1,6 @@
 // Timed walks, the routes that are chosen among them, and what a search for them keeps.
+#![tactic(auto)]
+
 pub mod labels;
 pub mod laws;
 pub mod requests;

@@ -5,8 +5,8 @@ use Rattle.book.proofs.laws.laws_stand.Goals as goal
 pub returns : goal.returns
 returns c =
     record {
-      other-loads = other_loads_stay;
-      other-legs = others_stay_admissible;
+      other_loads = other_loads_stay;
+      other_legs = others_stay_admissible;
       freed = freed_gives_back;
       within = within_stays;
       total = total_counts;

@@ -2,8 +2,8 @@ use Rattle.std.proofs.Common.{◌≡◌, ◌+◌, ◌-◌, ap, ◌∙◌, arith}
 use Rattle.book.proofs.Windows.{load_grows, load_slides, load_small}
 use Rattle.book.proofs.rooms.load_after.Goals as goal
 
-pub overflow-add-result : goal.overflow-add-result
-overflow-add-result g c =
+pub overflow_add-result : goal.overflow_add-result
+overflow_add-result g c =
     let m = g.B.Book.meaning c.args.book.now in
     let small = load_small m (g.B.Book.sound c.args.book.now) c.args.segment c.requires.known c.args.slot in
     omega (arith, small, c.requires.load)
@@ -15,14 +15,14 @@ returns-then-next-slots g c =
     (omega arith) in
     omega (arith, grows)
 
-pub overflow-add-result-2 : goal.overflow-add-result-2
-overflow-add-result-2 g c =
+pub overflow_add-result-2 : goal.overflow_add-result-2
+overflow_add-result-2 g c =
     let m = g.B.Book.meaning c.args.book.now in
     let small = load_small m (g.B.Book.sound c.args.book.now) c.args.segment c.requires.known c.args.slot in
     omega (arith, small, c.requires.load)
 
-pub overflow-sub-result : goal.overflow-sub-result
-overflow-sub-result g c =
+pub overflow_sub-result : goal.overflow_sub-result
+overflow_sub-result g c =
     let m = g.B.Book.meaning c.args.book.now in
     let slides = load_slides m (g.B.Book.sound c.args.book.now) c.args.segment c.requires.known c.args.slot
     (omega (arith, c.requires.slots)) in

@@ -8,7 +8,7 @@ pub loop-start-init : goal.loop-start-init
 loop-start-init g c =
     let m = g.B.Book.meaning c.args.book.now in
     let u = (road m c.args.segment).slots in
-    let first = c.saturating-sub-first.result in
+    let first = c.saturating_sub-first.result in
     let is : first ≡ c.args.slot + 1 - u = omega (arith, c.requires.slots) in
     (sym (window_first (m.standing c.args.segment) u first c.args.slot is), omega arith)
 

@@ -7,7 +7,7 @@ use Rattle.book.proofs.rooms.slots_have_room.Goals as goal
 pub loop-k-init : goal.loop-k-init
 loop-k-init g c =
     let m = g.B.Book.meaning c.args.book.now in (
-      c.load-at-load.ensures ∙ ap (load m c.args.leg.segment) (sym (add-zero c.args.leg.entry)),
+      c.load_at-load.ensures ∙ ap (load m c.args.leg.segment) (sym (add-zero c.args.leg.entry)),
       room_none m c.args.leg c.args.limit,
     )
 
@@ -21,7 +21,7 @@ pub loop-k-preserved : goal.loop-k-preserved
 loop-k-preserved g c =
     let m = g.B.Book.meaning c.args.book.now in
     let k = c.loop-k.k in (
-      c.load-after-load.ensures ∙ ap (load m c.args.leg.segment) (add_assoc c.args.leg.entry k 1),
+      c.load_after-load.ensures ∙ ap (load m c.args.leg.segment) (add_assoc c.args.leg.entry k 1),
       room_more m c.args.leg c.args.limit k c.loop-k.invariant.1 (omega (arith, c.loop-k.invariant.0)),
     )
 

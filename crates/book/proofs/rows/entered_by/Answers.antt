@@ -7,7 +7,7 @@ use Rattle.book.proofs.rows.entered_by.Goals as goal
 
 pub loop-start-init : goal.loop-start-init
 loop-start-init c =
-    let before = c.saturating-sub.ensures in (
+    let before = c.saturating_sub.ensures in (
       sym (none_entered c.args.row.now c.args.slots _ c.args.slot
           (omega (arith, before, c.min-first.ensures))),
       omega arith,
@@ -16,7 +16,7 @@ loop-start-init c =
 pub loop-start-preserved : goal.loop-start-preserved
 loop-start-preserved c =
     let more = window_more (entering c.args.row.now) c.args.slots c.loop-start.start c.args.slot
-    (omega (arith, c.saturating-sub.ensures, c.min-first.ensures)) (omega (arith, c.requires.by_then)) in
+    (omega (arith, c.saturating_sub.ensures, c.min-first.ensures)) (omega (arith, c.requires.by_then)) in
     (omega (arith, more, c.loop-start.invariant.0), omega (arith, c.loop-start.invariant.1))
 
 pub returns : goal.returns

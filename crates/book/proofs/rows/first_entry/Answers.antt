@@ -23,8 +23,8 @@ returns-then-travel-eq0 c some =
 
 pub loop-slot-init : goal.loop-slot-init
 loop-slot-init c = (
-  c.entered-by-load.ensures.value,
-  c.entered-by-load.ensures.bound,
+  c.entered_by-load.ensures.value,
+  c.entered_by-load.ensures.bound,
   omega arith,
   omega arith,
   omega arith,
@@ -32,8 +32,8 @@ loop-slot-init c = (
   open_yet _ _ _ _,
 )
 
-pub overflow-add-load : goal.overflow-add-load
-overflow-add-load c =
+pub overflow_add-load : goal.overflow_add-load
+overflow_add-load c =
     let small = (c.type-inv.row c.loop-slot.slot).fits in
     record { fits = omega (arith, c.loop-slot.invariant.1, small, c.min-end.ensures) }
 
@@ -63,8 +63,8 @@ returns-then-slot-first c some =
     (omega (arith, end, c.min-end.ensures)) (omega (arith, end, c.min-end.ensures))
     (subst (Open row u c.args.limit first) end room)
 
-pub overflow-sub-load-then-slot-travel : goal.overflow-sub-load-then-slot-travel
-overflow-sub-load-then-slot-travel c =
+pub overflow_sub-load-then-slot-travel : goal.overflow_sub-load-then-slot-travel
+overflow_sub-load-then-slot-travel c =
     let row = c.args.row.now in
     let u = c.args.slots in
     let slot = c.loop-slot.slot in

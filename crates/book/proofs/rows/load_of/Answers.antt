@@ -7,6 +7,6 @@ use Rattle.book.proofs.rows.load_of.Goals as goal
 pub returns : goal.returns
 returns c =
     let row = c.args.row.now in
-    c.entered-by.ensures.value
+    c.entered_by.ensures.value
     ∙ ap (λ n. load_below n (entering row) c.args.slots c.args.slot) c.min-end.ensures
     ∙ load_by_end row c.args.slots c.args.slot

@@ -3,9 +3,9 @@ use Rattle.std.proofs.lemmas.List.{take_all}
 use Rattle.call_lines.proofs.Digits.{digits_more, no_digit_from, no_digit_past}
 use Rattle.call_lines.proofs.parsing.digit_count.Goals as goal
 
-pub returns-then-not-is-ascii-digit : goal.returns-then-not-is-ascii-digit
-returns-then-not-is-ascii-digit c =
-    let no_digit = c.if-not-is-ascii-digit.ensures.cases in
+pub returns-then-not-is_ascii_digit : goal.returns-then-not-is_ascii_digit
+returns-then-not-is_ascii_digit c =
+    let no_digit = c.if-not-is_ascii_digit.ensures.cases in
     record {
       within = omega arith;
       all = c.loop-place.invariant;
@@ -17,7 +17,7 @@ returns-then-not-is-ascii-digit c =
 pub loop-place-preserved : goal.loop-place-preserved
 loop-place-preserved c =
     digits_more c.args.bytes.now c.loop-place.place c.loop-place-test.true c.loop-place.invariant
-    c.if-not-is-ascii-digit.ensures.cases
+    c.if-not-is_ascii_digit.ensures.cases
 
 pub returns : goal.returns
 returns c =

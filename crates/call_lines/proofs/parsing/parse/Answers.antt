@@ -29,8 +29,8 @@ returns-in-End c =
     let word = c.in-End.ensures in
     answers line (Err c.in-End.column) (breaks_empty line word.1 c.in-End.column word.0)
 
-pub returns-in-default : goal.returns-in-default
-returns-in-default c =
+pub returns-in_default : goal.returns-in_default
+returns-in_default c =
     let line = c.args.line.now in
     let word = c.in-Letter.ensures in
     let other =
@@ -41,7 +41,7 @@ returns-in-default c =
 
 pub returns-in-err-origin : goal.returns-in-err-origin
 returns-in-err-origin c =
-    let exit = c.from-residual in
+    let exit = c.from_residual in
     let error = err_from_is_err_and exit.result exit.ensures.1 in
     let word = c.in-Letter.ensures in
     let letter = c.in-Letter.letter in

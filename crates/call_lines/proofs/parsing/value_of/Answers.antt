@@ -7,15 +7,15 @@ use Rattle.call_lines.proofs.parsing.value_of.Goals.{
   then-place-eq-MOST-DIGITS-via-else-place-eq-MOST-DIGITS+then-value,
 }
 
-pub overflow-sub-value : goal.overflow-sub-value
-overflow-sub-value c =
+pub overflow_sub-value : goal.overflow_sub-value
+overflow_sub-value c =
     omega (
       arith,
       (digits_at c.args.digits.now c.loop-place.place c.requires.digits c.loop-place-test.true).0,
     )
 
-pub returns-then-place-eq-MOST-DIGITS : goal.returns-then-place-eq-MOST-DIGITS
-returns-then-place-eq-MOST-DIGITS c =
+pub returns-then-place-eq-MOST_DIGITS : goal.returns-then-place-eq-MOST_DIGITS
+returns-then-place-eq-MOST_DIGITS c =
     let digits = c.args.digits.now in
     let place = c.loop-place.place in
     let inside = c.loop-place-test.true in
@@ -25,7 +25,7 @@ returns-then-place-eq-MOST-DIGITS c =
       refl,
       passes_limit digits place c.requires.digits inside (omega arith) (omega arith)
           (λ under.
-          elim c.then-place-eq-MOST-DIGITS.branch [
+          elim c.then-place-eq-MOST_DIGITS.branch [
             | then-place-eq-MOST-DIGITS-via-then-place-eq-MOST-DIGITS w ↦ absurd (omega arith)
             | then-place-eq-MOST-DIGITS-via-else-place-eq-MOST-DIGITS+then-value w ↦ omega arith
           ]),

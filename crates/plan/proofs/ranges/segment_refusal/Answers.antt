@@ -6,9 +6,9 @@ pub returns-then-not-joins : goal.returns-then-not-joins
 unfolding segment_rules
 returns-then-not-joins c = search rules
 
-pub returns-then-travel-of-gt-MOST-TRAVEL : goal.returns-then-travel-of-gt-MOST-TRAVEL
+pub returns-then-travel_of-gt-MOST_TRAVEL : goal.returns-then-travel_of-gt-MOST_TRAVEL
 unfolding segment_rules
-returns-then-travel-of-gt-MOST-TRAVEL c = search rules
+returns-then-travel_of-gt-MOST_TRAVEL c = search rules
 
 pub returns : goal.returns
 unfolding segment_rules

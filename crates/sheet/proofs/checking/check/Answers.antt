@@ -17,7 +17,7 @@ pub returns-in-Ok : goal.returns-in-Ok
 returns-in-Ok c =
     let bytes = c.args.bytes.now in
     let split = c.in-Ok.ensures in
-    let found = c.sections-fault.ensures bytes split in
+    let found = c.sections_fault.ensures bytes split in
     record {
       first = found;
       accepts = λ none. faultless_sheet bytes split.bytes_fit (sym found ∙ none);

@@ -6,13 +6,13 @@ use Rattle.sheet.specs.Verdict.{closures_rules}
 use Rattle.sheet.proofs.Contents.{next_broken, next_sound, none_left}
 use Rattle.sheet.proofs.checking.closures_fault.Goals as goal
 
-pub returns-in-Some-closure-refusal : goal.returns-in-Some-closure-refusal
+pub returns-in-Some-closure_refusal : goal.returns-in-Some-closure_refusal
 unfolding closures_rules
-returns-in-Some-closure-refusal c =
+returns-in-Some-closure_refusal c =
     let rules = closure_rules c.args.settings c.args.segments in
     let loop = c.loop-closure in
     let taken = c.in-Some in
-    let refused = c.in-Some-closure-refusal in
+    let refused = c.in-Some-closure_refusal in
     let broken = sym refused.ensures in
     sym (loop.invariant.0
     ∙ next_broken closure_layout rules 3 loop.place loop.rest.now taken.closure taken.after refused.refusal
@@ -35,4 +35,4 @@ unfolding closures_rules
 returns c =
     let rules = closure_rules c.args.settings c.args.segments in
     let loop = c.loop-closure in
-    sym (loop.invariant.0 ∙ none_left closure_layout rules 3 loop.place loop.rest.now c.in-default.ensures)
+    sym (loop.invariant.0 ∙ none_left closure_layout rules 3 loop.place loop.rest.now c.in_default.ensures)

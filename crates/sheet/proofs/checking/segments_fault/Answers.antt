@@ -6,13 +6,13 @@ use Rattle.sheet.specs.Verdict.{segments_rules}
 use Rattle.sheet.proofs.Contents.{next_broken, next_sound, none_left}
 use Rattle.sheet.proofs.checking.segments_fault.Goals as goal
 
-pub returns-in-Some-segment-refusal : goal.returns-in-Some-segment-refusal
+pub returns-in-Some-segment_refusal : goal.returns-in-Some-segment_refusal
 unfolding segments_rules
-returns-in-Some-segment-refusal c =
+returns-in-Some-segment_refusal c =
     let rules = segment_rules c.args.settings in
     let loop = c.loop-segment in
     let taken = c.in-Some in
-    let refused = c.in-Some-segment-refusal in
+    let refused = c.in-Some-segment_refusal in
     let broken = sym refused.ensures in
     sym (loop.invariant.0
     ∙ next_broken segment_layout rules 2 loop.place loop.rest.now taken.segment taken.after refused.refusal
@@ -35,4 +35,4 @@ unfolding segments_rules
 returns c =
     let rules = segment_rules c.args.settings in
     let loop = c.loop-segment in
-    sym (loop.invariant.0 ∙ none_left segment_layout rules 2 loop.place loop.rest.now c.in-default.ensures)
+    sym (loop.invariant.0 ∙ none_left segment_layout rules 2 loop.place loop.rest.now c.in_default.ensures)

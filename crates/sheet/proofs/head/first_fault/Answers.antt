@@ -15,13 +15,13 @@ returns-in-Some c =
       bytes = λ none. absurd (let z : ◌≡◌ {A = ℕ} 0 1 = cc in omega arith);
     }
 
-pub returns-in-Some-order-fault : goal.returns-in-Some-order-fault
+pub returns-in-Some-order_fault : goal.returns-in-Some-order_fault
 unfolding head_rules
-returns-in-Some-order-fault c =
+returns-in-Some-order_fault c =
     let bytes = c.args.bytes.now in
     let format : first_broken (format_rules bytes) ≡ None = search rules in
-    let order = broken_first (pair_rules bytes) (extent_rules bytes) c.in-Some-order-fault.fault
-    (sym c.in-Some-order-fault.ensures) in
+    let order = broken_first (pair_rules bytes) (extent_rules bytes) c.in-Some-order_fault.fault
+    (sym c.in-Some-order_fault.ensures) in
     record {
       first = sym (broken_second (format_rules bytes) (pair_rules bytes ++ extent_rules bytes) format ∙ order);
       bytes = λ none. absurd (let z : ◌≡◌ {A = ℕ} 0 1 = cc in omega arith);
@@ -35,7 +35,7 @@ returns c =
     let order : first_broken (pair_rules bytes) ≡ None = search rules in
     record {
       first =
-          c.extent-fault.ensures
+          c.extent_fault.ensures
           ∙ sym (broken_second (format_rules bytes) (pair_rules bytes ++ extent_rules bytes) format
           ∙ broken_second (pair_rules bytes) (extent_rules bytes) order);
       bytes = λ none. search rules;

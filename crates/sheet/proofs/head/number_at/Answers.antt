@@ -10,11 +10,11 @@ loop-i-preserved c =
     let more = field_more i c.args.place c.args.bytes.now (omega arith) in
     (omega (arith, more), omega (arith, width_more i))
 
-pub overflow-mul-number : goal.overflow-mul-number
-overflow-mul-number c = let room : 256 ^ c.loop-i.i ≤ 256 ^ 3 = width_below c.loop-i.i 3 (omega arith) in omega arith
+pub overflow_mul-number : goal.overflow_mul-number
+overflow_mul-number c = let room : 256 ^ c.loop-i.i ≤ 256 ^ 3 = width_below c.loop-i.i 3 (omega arith) in omega arith
 
-pub overflow-add-number : goal.overflow-add-number
-overflow-add-number c =
+pub overflow_add-number : goal.overflow_add-number
+overflow_add-number c =
     let room : 256 ^ c.loop-i.i ≤ 256 ^ 3 = width_below c.loop-i.i 3 (omega arith) in
     let byte = (c.type-inv.bytes (c.args.place + c.loop-i.i)).fits in
     omega arith

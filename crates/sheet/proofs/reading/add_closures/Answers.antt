@@ -10,8 +10,8 @@ pub loop-closure-init : goal.loop-closure-init
 loop-closure-init c = record { fit = c.requires.fit; room = c.requires.room; same = refl }
 
 -- the addition is not refused
-pub returns-in-err-add-closure : goal.returns-in-err-add-closure
-returns-in-err-add-closure c =
+pub returns-in_err-add_closure : goal.returns-in_err-add_closure
+returns-in_err-add_closure c =
     let start = content c.args.plan.now in
     let whole = told_all closure_layout c.args.section.now in
     let before = content c.loop-closure.plan in
@@ -20,9 +20,9 @@ returns-in-err-add-closure c =
     subst (ClosuresLeft start whole before) c.in-Some.ensures.1 c.loop-closure.invariant in
     let taken = closure_taken start whole before c.in-Some.closure left all in
     let number = length before.closures in
-    let answer : c.add-closure.result ≡ Ok number =
-    c.add-closure.ensures.added.answer ∙ ap (λ o. numbered o number) taken in
-    let refused = c.in-err-add-closure.was in
+    let answer : c.add_closure.result ≡ Ok number =
+    c.add_closure.ensures.added.answer ∙ ap (λ o. numbered o number) taken in
+    let refused = c.in_err-add_closure.was in
     absurd (let z : ◌≡◌ {A = ℕ} 0 1 = cc in omega arith)
 
 pub loop-closure-preserved : goal.loop-closure-preserved
@@ -33,9 +33,9 @@ loop-closure-preserved c =
     let left = told_all closure_layout c.in-Some.after.now in
     let all : ClosuresLeft start whole before (c.in-Some.closure ∷ left) =
     subst (ClosuresLeft start whole before) c.in-Some.ensures.1 c.loop-closure.invariant in
-    let ok : is_ok c.add-closure.result ≡ true = ap is_ok c.in-ok-add-closure.was in
-    closures_left start whole before c.in-Some.closure left all (content c.add-closure.new.self)
-    (c.add-closure.ensures.added.grown ∙ cond-true (is_ok c.add-closure.result) _ _ ok)
+    let ok : is_ok c.add_closure.result ≡ true = ap is_ok c.in_ok-add_closure.was in
+    closures_left start whole before c.in-Some.closure left all (content c.add_closure.new.self)
+    (c.add_closure.ensures.added.grown ∙ cond-true (is_ok c.add_closure.result) _ _ ok)
 
 pub returns : goal.returns
 returns c =
@@ -44,5 +44,5 @@ returns c =
       after =
           closures_done (content c.args.plan.now) (told_all closure_layout c.args.section.now)
           (content c.loop-closure.plan)
-          (told_all closure_layout c.loop-closure.rest.now) c.loop-closure.invariant c.in-default.ensures.1;
+          (told_all closure_layout c.loop-closure.rest.now) c.loop-closure.invariant c.in_default.ensures.1;
     }

@@ -10,8 +10,8 @@ pub loop-segment-init : goal.loop-segment-init
 loop-segment-init c = record { fit = c.requires.fit; room = c.requires.room; same = refl }
 
 -- the addition is not refused
-pub returns-in-err-add-segment : goal.returns-in-err-add-segment
-returns-in-err-add-segment c =
+pub returns-in_err-add_segment : goal.returns-in_err-add_segment
+returns-in_err-add_segment c =
     let start = content c.args.plan.now in
     let whole = told_all segment_layout c.args.section.now in
     let before = content c.loop-segment.plan in
@@ -20,9 +20,9 @@ returns-in-err-add-segment c =
     subst (SegmentsLeft start whole before) c.in-Some.ensures.1 c.loop-segment.invariant in
     let taken = segment_taken start whole before c.in-Some.segment left all in
     let number = length before.segments in
-    let answer : c.add-segment.result ≡ Ok number =
-    c.add-segment.ensures.added.answer ∙ ap (λ o. numbered o number) taken in
-    let refused = c.in-err-add-segment.was in
+    let answer : c.add_segment.result ≡ Ok number =
+    c.add_segment.ensures.added.answer ∙ ap (λ o. numbered o number) taken in
+    let refused = c.in_err-add_segment.was in
     absurd (let z : ◌≡◌ {A = ℕ} 0 1 = cc in omega arith)
 
 pub loop-segment-preserved : goal.loop-segment-preserved
@@ -33,9 +33,9 @@ loop-segment-preserved c =
     let left = told_all segment_layout c.in-Some.after.now in
     let all : SegmentsLeft start whole before (c.in-Some.segment ∷ left) =
     subst (SegmentsLeft start whole before) c.in-Some.ensures.1 c.loop-segment.invariant in
-    let ok : is_ok c.add-segment.result ≡ true = ap is_ok c.in-ok-add-segment.was in
-    segments_left start whole before c.in-Some.segment left all (content c.add-segment.new.self)
-    (c.add-segment.ensures.added.grown ∙ cond-true (is_ok c.add-segment.result) _ _ ok)
+    let ok : is_ok c.add_segment.result ≡ true = ap is_ok c.in_ok-add_segment.was in
+    segments_left start whole before c.in-Some.segment left all (content c.add_segment.new.self)
+    (c.add_segment.ensures.added.grown ∙ cond-true (is_ok c.add_segment.result) _ _ ok)
 
 pub returns : goal.returns
 returns c =
@@ -44,5 +44,5 @@ returns c =
       after =
           segments_done (content c.args.plan.now) (told_all segment_layout c.args.section.now)
           (content c.loop-segment.plan)
-          (told_all segment_layout c.loop-segment.rest.now) c.loop-segment.invariant c.in-default.ensures.1;
+          (told_all segment_layout c.loop-segment.rest.now) c.loop-segment.invariant c.in_default.ensures.1;
     }

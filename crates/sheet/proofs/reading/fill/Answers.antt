@@ -7,8 +7,8 @@ use Rattle.sheet.specs.Records.{told_all}
 use Rattle.sheet.specs.Splits.{sections_content}
 use Rattle.sheet.proofs.reading.fill.Goals as goal
 
-pub add-segments-requires : goal.add-segments-requires
-add-segments-requires c =
+pub add_segments-requires : goal.add_segments-requires
+add_segments-requires c =
     let segments = told_all segment_layout c.args.sections.segments.now in
     let begun = c.requires.begun in
     let few = c.requires.fits.few_segments in
@@ -18,11 +18,11 @@ add-segments-requires c =
       room = omega (arith, none, few);
     }
 
-pub add-closures-requires : goal.add-closures-requires
-add-closures-requires c =
+pub add_closures-requires : goal.add_closures-requires
+add_closures-requires c =
     let closures = told_all closure_layout c.args.sections.closures.now in
     let segments = told_all segment_layout c.args.sections.segments.now in
-    let filled = c.add-segments.ensures.after ∙ ap (λ d. with_segments d segments) c.requires.begun in
+    let filled = c.add_segments.ensures.after ∙ ap (λ d. with_segments d segments) c.requires.begun in
     let few = c.requires.fits.few_closures in
     let none = ap (λ (d : Content). length d.closures) filled in
     record {
@@ -36,5 +36,5 @@ pub returns : goal.returns
 returns c =
     let closures = told_all closure_layout c.args.sections.closures.now in
     let segments = told_all segment_layout c.args.sections.segments.now in
-    let filled = c.add-segments.ensures.after ∙ ap (λ d. with_segments d segments) c.requires.begun in
-    record { done = search rules; after = c.add-closures.ensures.after ∙ ap (λ d. with_closures d closures) filled }
+    let filled = c.add_segments.ensures.after ∙ ap (λ d. with_segments d segments) c.requires.begun in
+    record { done = search rules; after = c.add_closures.ensures.after ∙ ap (λ d. with_closures d closures) filled }

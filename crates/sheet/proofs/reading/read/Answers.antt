@@ -11,23 +11,23 @@ returns-in-Err c =
     refused_by c.args.bytes.now c.in-Err.fault
     (head_found c.args.bytes.now c.in-Err.fault c.in-Err.ensures)
 
-pub returns-in-err-plan : goal.returns-in-err-plan
-returns-in-err-plan c =
+pub returns-in_err-plan : goal.returns-in_err-plan
+returns-in_err-plan c =
     let bytes = c.args.bytes.now in
     let split = c.in-Ok.ensures in
-    let none = sym (c.in-default.ensures bytes split) in
-    let failed = begin_failed bytes c.in-Ok.sections split none c.in-err-plan.field-0.0
-    c.in-err-plan.ensures in
-    let error = err_from_is_err_and c.from-residual.result c.from-residual.ensures.1 in
+    let none = sym (c.in_default.ensures bytes split) in
+    let failed = begin_failed bytes c.in-Ok.sections split none c.in_err-plan.field-0.0
+    c.in_err-plan.ensures in
+    let error = err_from_is_err_and c.from_residual.result c.from_residual.ensures.1 in
     rw (error.1, error.2) failed
 
 pub fill-requires : goal.fill-requires
 fill-requires c =
     let bytes = c.args.bytes.now in
     let split = c.in-Ok.ensures in
-    let none = sym (c.in-default.ensures bytes split) in
+    let none = sym (c.in_default.ensures bytes split) in
     record {
-      begun = c.in-ok-plan.ensures.1;
+      begun = c.in_ok-plan.ensures.1;
       fits = sections_fit bytes c.in-Ok.sections split none;
     }
 
@@ -35,5 +35,5 @@ pub returns-in-Ok-fill : goal.returns-in-Ok-fill
 returns-in-Ok-fill c =
     let bytes = c.args.bytes.now in
     let split = c.in-Ok.ensures in
-    let none = sym (c.in-default.ensures bytes split) in
+    let none = sym (c.in_default.ensures bytes split) in
     accepted_as bytes c.in-Ok.sections split none (content c.fill.new.plan) c.fill.ensures.after

@@ -7,8 +7,8 @@ use Rattle.sheet.proofs.Layouts.{closure_faithful}
 use Rattle.sheet.proofs.RecordLists.{told_all_none}
 use Rattle.sheet.proofs.records.next_closure.Goals as goal
 
-pub returns-in-default : goal.returns-in-default
-returns-in-default c =
+pub returns-in_default : goal.returns-in_default
+returns-in_default c =
     let section = c.args.section.now in
     let short : length section < 5 = search rules in
     (short, told_all_none closure_layout closure_faithful section short)
@@ -20,12 +20,12 @@ returns-in-len5-up c =
     let rest = take_rest section 5 in
     let two : closure_at section ≡ record {
       segment = get_or section 0 0;
-      first = c.from-be-bytes.result;
-      end = c.from-be-bytes-in-len5-up.result;
+      first = c.from_be_bytes.result;
+      end = c.from_be_bytes-in-len5-up.result;
     } = λ i. record {
       segment = get_or section 0 0;
-      first = sym c.from-be-bytes.ensures i;
-      end = sym c.from-be-bytes-in-len5-up.ensures i;
+      first = sym c.from_be_bytes.ensures i;
+      end = sym c.from_be_bytes-in-len5-up.ensures i;
     } in (
       omega (arith, ap length rest, length-drop 5 section),
       first_closure section long ∙ ap₂ ◌∷◌ two (ap (told_all closure_layout) (sym rest)),

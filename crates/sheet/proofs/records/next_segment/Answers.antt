@@ -7,8 +7,8 @@ use Rattle.sheet.proofs.Layouts.{segment_faithful}
 use Rattle.sheet.proofs.RecordLists.{told_all_none}
 use Rattle.sheet.proofs.records.next_segment.Goals as goal
 
-pub returns-in-default : goal.returns-in-default
-returns-in-default c =
+pub returns-in_default : goal.returns-in_default
+returns-in_default c =
     let section = c.args.section.now in
     let short : length section < 6 = search rules in
     (short, told_all_none segment_layout segment_faithful section short)
@@ -21,13 +21,13 @@ returns-in-len6-up c =
     let two : segment_at section ≡ record {
       start = get_or section 0 0;
       end = get_or section 1 0;
-      length = c.from-be-bytes.result;
+      length = c.from_be_bytes.result;
       lanes = get_or section 4 0;
       class = get_or section 5 0;
     } = λ i. record {
       start = get_or section 0 0;
       end = get_or section 1 0;
-      length = sym c.from-be-bytes.ensures i;
+      length = sym c.from_be_bytes.ensures i;
       lanes = get_or section 4 0;
       class = get_or section 5 0;
     } in (

@@ -13,9 +13,9 @@ no_closure = record { segment = 0; first = 0; end = 0 }
 pub loop-closure-init : goal.loop-closure-init
 loop-closure-init c = laying_none (written closure_layout) c.args.closures.now c.args.memory.now c.args.start
 
-pub put-closure-place-requires : goal.put-closure-place-requires
+pub put_closure-place-requires : goal.put_closure-place-requires
 unfolding no_closure
-put-closure-place-requires c =
+put_closure-place-requires c =
     let loop = c.loop-closure in
     let closure = get_or c.args.closures.now loop.closure-index no_closure in
     let room : loop.place + length (written closure_layout closure) ≤ length c.args.memory.now =
@@ -27,9 +27,9 @@ unfolding no_closure
 loop-closure-preserved c =
     let loop = c.loop-closure in
     let closure = get_or c.args.closures.now loop.closure-index no_closure in
-    let behind : c.put-closure-place.result ≡ loop.place + length (written closure_layout closure) =
-    omega (arith, c.put-closure-place.ensures.behind, length_written closure_layout closure_faithful closure) in
-    laying_next no_closure (omega arith) c.requires loop.invariant c.put-closure-place.ensures.written behind
+    let behind : c.put_closure-place.result ≡ loop.place + length (written closure_layout closure) =
+    omega (arith, c.put_closure-place.ensures.behind, length_written closure_layout closure_faithful closure) in
+    laying_next no_closure (omega arith) c.requires loop.invariant c.put_closure-place.ensures.written behind
 
 pub returns : goal.returns
 returns c =

@@ -13,9 +13,9 @@ no_segment = record { start = 0; end = 0; length = 0; lanes = 0; class = 0 }
 pub loop-segment-init : goal.loop-segment-init
 loop-segment-init c = laying_none (written segment_layout) c.args.segments.now c.args.memory.now c.args.start
 
-pub put-segment-place-requires : goal.put-segment-place-requires
+pub put_segment-place-requires : goal.put_segment-place-requires
 unfolding no_segment
-put-segment-place-requires c =
+put_segment-place-requires c =
     let loop = c.loop-segment in
     let segment = get_or c.args.segments.now loop.segment-index no_segment in
     let room : loop.place + length (written segment_layout segment) ≤ length c.args.memory.now =
@@ -27,9 +27,9 @@ unfolding no_segment
 loop-segment-preserved c =
     let loop = c.loop-segment in
     let segment = get_or c.args.segments.now loop.segment-index no_segment in
-    let behind : c.put-segment-place.result ≡ loop.place + length (written segment_layout segment) =
-    omega (arith, c.put-segment-place.ensures.behind, length_written segment_layout segment_faithful segment) in
-    laying_next no_segment (omega arith) c.requires loop.invariant c.put-segment-place.ensures.written behind
+    let behind : c.put_segment-place.result ≡ loop.place + length (written segment_layout segment) =
+    omega (arith, c.put_segment-place.ensures.behind, length_written segment_layout segment_faithful segment) in
+    laying_next no_segment (omega arith) c.requires loop.invariant c.put_segment-place.ensures.written behind
 
 pub returns : goal.returns
 returns c =

@@ -14,17 +14,17 @@ pub returns-then-memory-size : goal.returns-then-memory-size
 returns-then-memory-size c =
     let plan = content c.args.plan.now in
     let size = length_encode plan (plan_fits c.args.plan.now) in
-    record { short = omega (arith, size); said = c.outside-sheet.ensures; untouched = search rules }
+    record { short = omega (arith, size); said = c.outside_sheet.ensures; untouched = search rules }
 
-pub put-segments-closures-start-requires : goal.put-segments-closures-start-requires
-put-segments-closures-start-requires c =
+pub put_segments-closures_start-requires : goal.put_segments-closures_start-requires
+put_segments-closures_start-requires c =
     let plan = content c.args.plan.now in
     let long = length_written_all segment_layout segment_faithful plan.segments in
     let same = ap (λ gs. length (written_all segment_layout gs)) c.segments.ensures in
     omega (arith, long, same)
 
-pub put-closures-end-requires : goal.put-closures-end-requires
-put-closures-end-requires c =
+pub put_closures-end-requires : goal.put_closures-end-requires
+put_closures-end-requires c =
     let plan = content c.args.plan.now in
     let segments-long = length_written_all segment_layout segment_faithful plan.segments in
     let segments-same = ap (λ gs. length (written_all segment_layout gs)) c.segments.ensures in
@@ -40,24 +40,24 @@ returns c =
     let segments-long = length_written_all segment_layout segment_faithful plan.segments in
     let closures-long = length_written_all closure_layout closure_faithful plan.closures in
     let memory = c.args.memory.now in
-    let after-head = c.put-head-settings-start.new.memory in
-    let after-settings = c.put-settings-segments-start.new.memory in
-    let after-segments = c.put-segments-closures-start.new.memory in
-    let settings-place : c.put-head-settings-start.result ≡ 26 = c.put-head-settings-start.ensures.behind in
-    let segments-place : c.put-settings-segments-start.result ≡ 33 = omega arith in
-    let closures-place : c.put-segments-closures-start.result ≡ 33 + length (written_all segment_layout plan.segments) =
+    let after-head = c.put_head-settings_start.new.memory in
+    let after-settings = c.put_settings-segments_start.new.memory in
+    let after-segments = c.put_segments-closures_start.new.memory in
+    let settings-place : c.put_head-settings_start.result ≡ 26 = c.put_head-settings_start.ensures.behind in
+    let segments-place : c.put_settings-segments_start.result ≡ 33 = omega arith in
+    let closures-place : c.put_segments-closures_start.result ≡ 33 + length (written_all segment_layout plan.segments) =
     omega (arith, ap length segments-same) in
-    let head-put = c.put-head-settings-start.ensures.written
+    let head-put = c.put_head-settings_start.ensures.written
     ∙ ap₂ (λ n m. over memory 0 (packed head_widths (head_values n m)))
-    c.segment-count-segments.ensures c.closure-count-closures.ensures in
-    let settings-put = c.put-settings-segments-start.ensures.written
+    c.segment_count-segments.ensures c.closure_count-closures.ensures in
+    let settings-put = c.put_settings-segments_start.ensures.written
     ∙ ap₂ (λ p s. over after-head p (written settings_layout s)) settings-place c.settings.ensures.value in
-    let segments-put = c.put-segments-closures-start.ensures.written
+    let segments-put = c.put_segments-closures_start.ensures.written
     ∙ ap₂ (over after-settings) segments-place segments-same in
-    let closures-put = c.put-closures-end.ensures.written
+    let closures-put = c.put_closures-end.ensures.written
     ∙ ap₂ (over after-segments) closures-place closures-same in
     let room : 33 + length (written_all segment_layout plan.segments) + length (written_all closure_layout plan.closures)
     ≤ length memory = omega (arith, segments-long, closures-long) in
-    sheet_written plan memory after-head after-settings after-segments c.put-closures-end.new.memory
-    head-put settings-put segments-put closures-put room c.put-closures-end.result (plan_fits c.args.plan.now)
+    sheet_written plan memory after-head after-settings after-segments c.put_closures-end.new.memory
+    head-put settings-put segments-put closures-put room c.put_closures-end.result (plan_fits c.args.plan.now)
     (omega (arith, closures-place, ap length closures-same))

@@ -15,18 +15,18 @@ returns-then-not-admissible g c =
     let l = c.args.leg in
     sym (admissible_held c.args.held m l ∙ and_left (admissible m l) _ (sym c.if-not-admissible.ensures))
 
-pub returns-in-default : goal.returns-in-default
-returns-in-default g c =
+pub returns-in_default : goal.returns-in_default
+returns-in_default g c =
     let m = g.Self.Book.meaning c.args.self.now in
     let l = c.args.leg in
     let known = admitted_known m l (sym c.if-not-admissible.ensures) in
-    absurd (omega (arith, known, segment_none m l.segment c.in-default.ensures))
+    absurd (omega (arith, known, segment_none m l.segment c.in_default.ensures))
 
 pub loop-k-init : goal.loop-k-init
 loop-k-init g c = room_none _ _ _
 
-pub overflow-add-leg : goal.overflow-add-leg
-overflow-add-leg g c =
+pub overflow_add-leg : goal.overflow_add-leg
+overflow_add-leg g c =
     let b = c.args.self.now in
     let m = g.Self.Book.meaning b in
     let l = c.args.leg in
@@ -43,7 +43,7 @@ returns-then-load-limit g c =
     let slots = ap (λ (q : ℕ × ℕ × ℕ × ℕ). q.2) numbers.1 in
     let count = ap (λ (q : ℕ × ℕ × ℕ × ℕ). q.3) numbers.1 in
     let full = room_fails m l ((road m l.segment).count - c.args.held) (road m l.segment).slots c.loop-k.k
-    (omega (arith, slots)) (omega (arith, count, c.load.ensures, c.saturating-sub-limit.ensures)) in
+    (omega (arith, slots)) (omega (arith, count, c.load.ensures, c.saturating_sub-limit.ensures)) in
     sym (admissible_held c.args.held m l
     ∙ and_right (admissible m l) _ (room_held c.args.held m l numbers.0 ∙ full))
 
@@ -57,8 +57,8 @@ returns g c =
     let numbers = segment_some m l.segment _ c.in-Some.ensures in
     let slots : c.loop-k.k ≡ (road m l.segment).slots =
     omega (arith, ap (λ (q : ℕ × ℕ × ℕ × ℕ). q.2) numbers.1) in
-    let limit : c.saturating-sub-limit.result ≡ (road m l.segment).count - c.args.held =
-    omega (arith, ap (λ (q : ℕ × ℕ × ℕ × ℕ). q.3) numbers.1, c.saturating-sub-limit.ensures) in
+    let limit : c.saturating_sub-limit.result ≡ (road m l.segment).count - c.args.held =
+    omega (arith, ap (λ (q : ℕ × ℕ × ℕ × ℕ). q.3) numbers.1, c.saturating_sub-limit.ensures) in
     let room = room_held c.args.held m l numbers.0
     ∙ sym (ap₂ (room_below m l) limit slots)
     ∙ c.loop-k.invariant in

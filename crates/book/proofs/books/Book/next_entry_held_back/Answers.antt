@@ -8,13 +8,13 @@ pub loop-slot-init : goal.loop-slot-init
 loop-slot-init g c =
     none_yet (held_back c.args.held (g.Self.Book.meaning c.args.self.now)) c.args.segment c.args.from
 
-pub returns-then-admissible-held-back : goal.returns-then-admissible-held-back
-returns-then-admissible-held-back g c =
-    none_before _ _ _ c.loop-slot.slot c.loop-slot.invariant (omega arith) (sym c.if-admissible-held-back.ensures)
+pub returns-then-admissible_held_back : goal.returns-then-admissible_held_back
+returns-then-admissible_held_back g c =
+    none_before _ _ _ c.loop-slot.slot c.loop-slot.invariant (omega arith) (sym c.if-admissible_held_back.ensures)
 
 pub loop-slot-preserved : goal.loop-slot-preserved
 loop-slot-preserved g c =
-    none_more _ _ _ c.loop-slot.slot c.loop-slot.invariant (sym c.if-admissible-held-back.ensures)
+    none_more _ _ _ c.loop-slot.slot c.loop-slot.invariant (sym c.if-admissible_held_back.ensures)
 
 pub returns : goal.returns
 returns g c =

@@ -5,8 +5,8 @@ use Rattle.book.specs.Shown.{Joins, no_numbers, plan_shown, road_of, roads_of}
 use Rattle.book.proofs.Showing.{roads_join, roads_kept, roads_measure, sizes_fit}
 use Rattle.book.proofs.shown.ShownPlan.new.Goals as goal
 
-pub invariant-of-result : goal.invariant-of-result
-invariant-of-result c =
+pub invariant_of-result : goal.invariant_of-result
+invariant_of-result c =
     let told = content c.args.plan.now in
     let fits = c.settings-settings.ensures.in_range in
     let few = fits.few_segments in
@@ -14,9 +14,9 @@ invariant-of-result c =
     let sizes = sizes_fit told.settings fits.settings_in_range in
     let horizon = ap (λ s. s.horizon) value in
     let junctions = ap (λ s. s.junctions) value in
-    let n = c.segment-count.result in
-    let count = c.segment-count.ensures in
-    let asked = c.segment-count-number-end.ensures in
+    let n = c.segment_count.result in
+    let count = c.segment_count.ensures in
+    let asked = c.segment_count-number-end.ensures in
     let numbers = c.loop-number.numbers in
     let sized = c.loop-number.invariant.0 in
     let enough : n ≤ length numbers = omega (arith, count, few, sized) in
@@ -52,9 +52,9 @@ returns c =
     let fits = c.settings-settings.ensures.in_range in
     let few = fits.few_segments in
     let value = c.settings-settings.ensures.value in
-    let n = c.segment-count.result in
-    let count = c.segment-count.ensures in
-    let asked = c.segment-count-number-end.ensures in
+    let n = c.segment_count.result in
+    let count = c.segment_count.ensures in
+    let asked = c.segment_count-number-end.ensures in
     let numbers = c.loop-number.numbers in
     let sized = c.loop-number.invariant.0 in
     let enough : n ≤ length numbers = omega (arith, count, few, sized) in

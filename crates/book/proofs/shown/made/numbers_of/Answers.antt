@@ -12,12 +12,12 @@ returns-in-Some c =
     let told = content c.args.plan.now in
     let g = c.in-Some.segment in
     let at : slice_get told.segments c.args.number ≡ Some g = sym c.in-Some.ensures in
-    let slots : c.unwrap-or.result ≡ travel told.settings g =
-    c.unwrap-or.ensures
-    ∙ ap (λ o. unwrap_or o 0) (c.travel-slots.ensures ∙ ap (option_map (travel told.settings)) at) in
-    let count : c.unwrap-or-in-Some.result ≡ critical told.settings g =
-    c.unwrap-or-in-Some.ensures
-    ∙ ap (λ o. unwrap_or o 0) (c.critical-count.ensures ∙ ap (option_map (critical told.settings)) at) in
+    let slots : c.unwrap_or.result ≡ travel told.settings g =
+    c.unwrap_or.ensures
+    ∙ ap (λ o. unwrap_or o 0) (c.travel_slots.ensures ∙ ap (option_map (travel told.settings)) at) in
+    let count : c.unwrap_or-in-Some.result ≡ critical told.settings g =
+    c.unwrap_or-in-Some.ensures
+    ∙ ap (λ o. unwrap_or o 0) (c.critical_count.ensures ∙ ap (option_map (critical told.settings)) at) in
     ap₂ (λ u n. record { start = g.start; end = g.end; slots = u; count = n }) slots count
     ∙ sym (road_known told.settings told.segments c.args.number g at)
 

@@ -5,25 +5,31 @@ use Rattle.plan.specs.Rules.{first_broken}
 use Rattle.plan.proofs.Ruling.{all_kept}
 use Rattle.plan.proofs.road_plan.Plan.begin.Goals as goal
 
-pub returns-in-err-segments : goal.returns-in-err-segments
-returns-in-err-segments c =
+pub returns-in_err-segments : goal.returns-in_err-segments
+returns-in_err-segments c =
     let none : first_broken (settings_rules c.args.settings) ≡ None = search rules in
-    let error = err_from_is_err_and c.from-residual.result c.from-residual.ensures.1 in
+    let error = err_from_is_err_and c.from_residual.result c.from_residual.ensures.1 in
     rw (error.1, error.2) none
 
-pub returns-in-err-closures : goal.returns-in-err-closures
-returns-in-err-closures c =
+pub returns-in_err-closures : goal.returns-in_err-closures
+returns-in_err-closures c =
     let none : first_broken (settings_rules c.args.settings) ≡ None = search rules in
-    let result = c.from-residual-in-err-closures.result in
-    let error = err_from_is_err_and result c.from-residual-in-err-closures.ensures.1 in
+    let result = c.from_residual-in_err-closures.result in
+    let error = err_from_is_err_and result c.from_residual-in_err-closures.ensures.1 in
     rw (error.1, error.2) none
 
-pub invariant-of-result : goal.invariant-of-result
+pub invariant_of-result : goal.invariant_of-result
 unfolding settings_fit segments_fit closures_fit
-invariant-of-result c =
+invariant_of-result c =
     let none : first_broken (settings_rules c.args.settings) ≡ None = search rules in
-    let segments = c.in-ok-segments.ensures in
-    let closures = c.in-ok-closures.ensures in (
-      all_kept (settings_rules c.args.settings) none,
-      (rw segments.items refl, (rw closures.items refl, (omega arith, (omega arith, (omega arith, (omega arith, tt)))))),
-    )
+    let segments = c.in_ok-segments.ensures in
+    let closures = c.in_ok-closures.ensures in
+    record {
+      settings_in_range = all_kept (settings_rules c.args.settings) none;
+      segments_in_range = rw segments.items refl;
+      closures_in_range = rw closures.items refl;
+      few_segments = omega arith;
+      few_closures = omega arith;
+      segment_room = omega arith;
+      closure_room = omega arith;
+    }
