@@ -5,7 +5,7 @@ use Rattle.std.proofs.lemmas.List.{append_assoc, length-append, length-take, len
 use Rattle.std.proofs.lemmas.Bool.{cases_lt, cases_order}
 use Rattle.call_lines.specs.Grammar.{Digit, Spaced, Spells, letter, numbers}
 use Rattle.call_lines.specs.Parsing.{Answers, Breaks, Continues, Parses, deciding}
-use Rattle.call_lines.specs.Stops.{Goes_on, Stops, StopsAt}
+use Rattle.call_lines.specs.Stops.{GoesOn, Stops, StopsAt}
 use Rattle.call_lines.specs.Words.{Run}
 use Rattle.call_lines.specs.declared.calls.LineCall.{LineCall}
 use Rattle.call_lines.specs.declared.calls.LineCall.TheVariants as call
@@ -109,7 +109,7 @@ pub of_list : Counts 76 0
 of_list = record { makes = makes_list; counts = list_counts }
 
 continues_letter :
-    (l count : ℕ) (bytes : List ℕ) → Counts l count → Goes_on count bytes → Continues (l ∷ bytes)
+    (l count : ℕ) (bytes : List ℕ) → Counts l count → GoesOn count bytes → Continues (l ∷ bytes)
 continues_letter l count bytes of more =
     let made = of.makes more.1 more.2 in (
       more.0,

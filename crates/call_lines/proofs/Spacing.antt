@@ -2,7 +2,7 @@
 use Rattle.std.proofs.Common.{◌≡◌, ℕ, zero, suc, ◌+◌, ◌*◌, ◌<◌, ◌≤◌, List, [], ◌∷◌, ◌++◌, length, sym, refl, ap, ◌∙◌, arith}
 use Rattle.std.proofs.lemmas.List.{append_assoc, length-append}
 use Rattle.call_lines.specs.Grammar.{Number, Spaced, space}
-use Rattle.call_lines.specs.Stops.{Goes_on}
+use Rattle.call_lines.specs.Stops.{GoesOn}
 use Rattle.call_lines.specs.Words.{NoDigit}
 use Rattle.call_lines.proofs.Digits.{run_unique}
 
@@ -63,7 +63,7 @@ zero_number = record {
 }
 
 -- so many spaced numbers can be spelled
-pub some_spaced : (count : ℕ) → Goes_on count []
+pub some_spaced : (count : ℕ) → GoesOn count []
 some_spaced zero = ([], [], refl, refl)
 some_spaced (suc count) =
     let rest = some_spaced count in (
@@ -76,7 +76,7 @@ some_spaced (suc count) =
 -- a number in front of what can be continued to so many
 pub goes_on_number :
     (count : ℕ) (word bytes : List ℕ) (n : ℕ)
-    → Number word n → Goes_on count bytes → Goes_on (suc count) (space ∷ (word ++ bytes))
+    → Number word n → GoesOn count bytes → GoesOn (suc count) (space ∷ (word ++ bytes))
 goes_on_number count word bytes n number more = (
   more.0,
   n ∷ more.1,

@@ -3,7 +3,7 @@ use Rattle.std.proofs.Common.{◌≡◌, ℕ, zero, suc, ◌+◌, ◌*◌, ◌<�
 use Rattle.std.specs.List.{AllByRecursion as All}
 use Rattle.std.proofs.lemmas.List.{append_assoc, append-nil, length-append, length-take-le, take_all, take-append-drop, take-append-le}
 use Rattle.call_lines.specs.Grammar.{Digit, Number, Spaced, most_digits, most_number, read_on, space}
-use Rattle.call_lines.specs.Stops.{Goes_on, Passes, Stops}
+use Rattle.call_lines.specs.Stops.{GoesOn, Passes, Stops}
 use Rattle.call_lines.specs.Words.{NoDigit}
 use Rattle.call_lines.proofs.Digits.{digits_take, read_on_append, read_on_ge, run_begins}
 use Rattle.call_lines.proofs.Spacing.{
@@ -18,7 +18,7 @@ use Rattle.call_lines.proofs.Spacing.{
 -- what spells some numbers can be continued to such, at each place
 goes_on_from_spaced :
     (count : ℕ) (bytes ns : List ℕ) (place : ℕ)
-    → length ns ≡ count → Spaced ns bytes → Goes_on count (take place bytes)
+    → length ns ≡ count → Spaced ns bytes → GoesOn count (take place bytes)
 goes_on_from_spaced count bytes ns place long spaced =
     (drop place bytes, ns, long, rw take-append-drop spaced)
 
@@ -26,8 +26,8 @@ goes_on_from_spaced count bytes ns place long spaced =
 pub stops_here :
     (count : ℕ) (bytes : List ℕ) (place : ℕ)
     → place < length bytes
-    → Goes_on count (take place bytes)
-    → (Goes_on count (take (suc place) bytes) → ⊥)
+    → GoesOn count (take place bytes)
+    → (GoesOn count (take (suc place) bytes) → ⊥)
     → Stops count bytes place
 stops_here count bytes place inside before here = record {
   none = λ ns long spaced. here (goes_on_from_spaced count bytes ns (suc place) long spaced);
@@ -40,7 +40,7 @@ stops_here count bytes place inside before here = record {
 pub stops_at_end :
     (count : ℕ) (bytes : List ℕ) (place : ℕ)
     → place ≡ length bytes
-    → Goes_on count bytes
+    → GoesOn count bytes
     → ((ns : List ℕ) → length ns ≡ count → Spaced ns bytes → ⊥)
     → Stops count bytes place
 stops_at_end count bytes place end before none = record {
@@ -91,7 +91,7 @@ no_digit_first count bytes ns end long spaced =
 
 no_digit_here :
     (count : ℕ) (bytes : List ℕ)
-    → NoDigit bytes → 1 < length (space ∷ bytes) → Goes_on (suc count) (take 2 (space ∷ bytes)) → ⊥
+    → NoDigit bytes → 1 < length (space ∷ bytes) → GoesOn (suc count) (take 2 (space ∷ bytes)) → ⊥
 no_digit_here count [] end inside more = omega arith
 no_digit_here count (b ∷ bs) end inside more = no_digit_first count (b ∷ more.0) more.1 end more.2 more.3
 

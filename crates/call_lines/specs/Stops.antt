@@ -5,16 +5,16 @@ use Rattle.call_lines.specs.Words.{NoDigit}
 use Rattle.call_lines.specs.declared.words.Rest.{Rest}
 
 -- some bytes that begin so are so many spaced numbers
-abbrev pub Goes_on : ℕ → List ℕ → Type 0
-Goes_on count bytes = (rest : List ℕ) × (ns : List ℕ) × (length ns ≡ count) × Spaced ns (bytes ++ rest)
+abbrev pub GoesOn : ℕ → List ℕ → Type 0
+GoesOn count bytes = (rest : List ℕ) × (ns : List ℕ) × (length ns ≡ count) × Spaced ns (bytes ++ rest)
 
 -- the bytes are not so many spaced numbers; those before the place, from 0, can be continued to such, and those with
 -- the byte there cannot
 pub record Stops (count : ℕ) (bytes : List ℕ) (place : ℕ) : Type 0 where
   pub none : (ns : List ℕ) → length ns ≡ count → Spaced ns bytes → ⊥
   pub within : place ≤ length bytes
-  pub before : Goes_on count (take place bytes)
-  pub here : place < length bytes → Goes_on count (take (suc place) bytes) → ⊥
+  pub before : GoesOn count (take place bytes)
+  pub here : place < length bytes → GoesOn count (take (suc place) bytes) → ⊥
 
 -- a column, of a rest that begins at a column
 abbrev pub StopsAt : ℕ → List ℕ → ℕ → ℕ → Type 0

@@ -34,7 +34,7 @@ loop-slot-init c = (
 
 pub overflow_add-load : goal.overflow_add-load
 overflow_add-load c =
-    let small = (c.type-inv.row c.loop-slot.slot).fits in
+    let small = (c.type_inv.row c.loop-slot.slot).fits in
     record { fits = omega (arith, c.loop-slot.invariant.1, small, c.min-end.ensures) }
 
 pub returns-then-first-to : goal.returns-then-first-to
@@ -87,7 +87,7 @@ loop-slot-preserved c =
     let some : 1 ≤ u = omega (arith, c.if-travel-eq0.false) in
     let within : slot < length row = omega (arith, c.min-end.ensures) in
     let enters = load_enters row u some slot within in
-    let small = (c.type-inv.row slot).fits in
+    let small = (c.type_inv.row slot).fits in
     let was = c.loop-slot.invariant.0 in
     let most = c.loop-slot.invariant.1 in
     let next : c.if-slot-travel.load ≡ load_below (slot + 1) (entering row) u (slot + 1) =

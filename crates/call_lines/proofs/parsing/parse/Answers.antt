@@ -39,8 +39,8 @@ returns-in_default c =
     answers line (Err c.in-Letter.column)
     (breaks_first line word.2.0 c.in-Letter.letter word.2.1 other c.in-Letter.column word.0)
 
-pub returns-in-err-origin : goal.returns-in-err-origin
-returns-in-err-origin c =
+pub returns-in_err-origin-in-R : goal.returns-in_err-origin-in-R
+returns-in_err-origin-in-R c =
     let exit = c.from_residual in
     let error = err_from_is_err_and exit.result exit.ensures.1 in
     let word = c.in-Letter.ensures in
@@ -48,88 +48,88 @@ returns-in-err-origin c =
     let behind = c.behind-rest in
     rw (error.1, error.2)
     (answers_column 82 3 c.args.line.now word.2.0 letter behind.result _ of_request word.2.1
-    (omega arith) behind.ensures.bytes behind.ensures.column c.in-err-origin.ensures)
+    (omega arith) behind.ensures.bytes behind.ensures.column c.in_err-origin-in-R.ensures)
 
-pub returns-in-err-number : goal.returns-in-err-number
-returns-in-err-number c =
-    let exit = c.from-residual-in-err-number in
+pub returns-in_err-number-in-C : goal.returns-in_err-number-in-C
+returns-in_err-number-in-C c =
+    let exit = c.from_residual-in_err-number-in-C in
     let error = err_from_is_err_and exit.result exit.ensures.1 in
     let word = c.in-Letter.ensures in
     let letter = c.in-Letter.letter in
     let behind = c.behind-rest in
     rw (error.1, error.2)
     (answers_column 67 1 c.args.line.now word.2.0 letter behind.result _ of_confirm word.2.1
-    (omega arith) behind.ensures.bytes behind.ensures.column c.in-err-number.ensures)
+    (omega arith) behind.ensures.bytes behind.ensures.column c.in_err-number-in-C.ensures)
 
-pub returns-in-err-number-2 : goal.returns-in-err-number-2
-returns-in-err-number-2 c =
-    let exit = c.from-residual-in-err-number-2 in
+pub returns-in_err-number-in-W : goal.returns-in_err-number-in-W
+returns-in_err-number-in-W c =
+    let exit = c.from_residual-in_err-number-in-W in
     let error = err_from_is_err_and exit.result exit.ensures.1 in
     let word = c.in-Letter.ensures in
     let letter = c.in-Letter.letter in
     let behind = c.behind-rest in
     rw (error.1, error.2)
     (answers_column 87 1 c.args.line.now word.2.0 letter behind.result _ of_withdraw word.2.1
-    (omega arith) behind.ensures.bytes behind.ensures.column c.in-err-number-2.ensures)
+    (omega arith) behind.ensures.bytes behind.ensures.column c.in_err-number-in-W.ensures)
 
-pub returns-in-err-number-3 : goal.returns-in-err-number-3
-returns-in-err-number-3 c =
-    let exit = c.from-residual-in-err-number-3 in
+pub returns-in_err-number-in-A : goal.returns-in_err-number-in-A
+returns-in_err-number-in-A c =
+    let exit = c.from_residual-in_err-number-in-A in
     let error = err_from_is_err_and exit.result exit.ensures.1 in
     let word = c.in-Letter.ensures in
     let letter = c.in-Letter.letter in
     let behind = c.behind-rest in
     rw (error.1, error.2)
     (answers_column 65 1 c.args.line.now word.2.0 letter behind.result _ of_arrive word.2.1
-    (omega arith) behind.ensures.bytes behind.ensures.column c.in-err-number-3.ensures)
+    (omega arith) behind.ensures.bytes behind.ensures.column c.in_err-number-in-A.ensures)
 
-pub returns-in-err-at-end : goal.returns-in-err-at-end
-returns-in-err-at-end c =
-    let exit = c.from-residual-in-err-at-end in
+pub returns-in_err-at_end-in-L : goal.returns-in_err-at_end-in-L
+returns-in_err-at_end-in-L c =
+    let exit = c.from_residual-in_err-at_end-in-L in
     let error = err_from_is_err_and exit.result exit.ensures.1 in
     let word = c.in-Letter.ensures in
     let letter = c.in-Letter.letter in
     let behind = c.behind-rest in
     rw (error.1, error.2)
     (answers_column 76 0 c.args.line.now word.2.0 letter behind.result _ of_list word.2.1
-    (omega arith) behind.ensures.bytes behind.ensures.column c.in-err-at-end.ensures)
+    (omega arith) behind.ensures.bytes behind.ensures.column c.in_err-at_end-in-L.ensures)
 
-pub returns-in-ok-origin : goal.returns-in-ok-origin
-returns-in-ok-origin c =
+pub returns-in_ok-origin-in-R : goal.returns-in_ok-origin-in-R
+returns-in_ok-origin-in-R c =
     let word = c.in-Letter.ensures in
     let behind = c.behind-rest in
-    let found = c.in-ok-origin in
+    let found = c.in_ok-origin-in-R in
     answers_call (call.Request found.origin found.destination found.slot) c.args.line.now word.2.0
     c.in-Letter.letter behind.result word.2.1 (omega arith) behind.ensures.bytes found.ensures
 
-pub returns-in-ok-number : goal.returns-in-ok-number
-returns-in-ok-number c =
+pub returns-in_ok-number-in-C : goal.returns-in_ok-number-in-C
+returns-in_ok-number-in-C c =
     let word = c.in-Letter.ensures in
     let behind = c.behind-rest in
-    let found = c.in-ok-number in
+    let found = c.in_ok-number-in-C in
     answers_call (call.Confirm found.number) c.args.line.now word.2.0
     c.in-Letter.letter behind.result word.2.1 (omega arith) behind.ensures.bytes found.ensures
 
-pub returns-in-ok-number-2 : goal.returns-in-ok-number-2
-returns-in-ok-number-2 c =
+pub returns-in_ok-number-in-W : goal.returns-in_ok-number-in-W
+returns-in_ok-number-in-W c =
     let word = c.in-Letter.ensures in
     let behind = c.behind-rest in
-    let found = c.in-ok-number-2 in
+    let found = c.in_ok-number-in-W in
     answers_call (call.Withdraw found.number) c.args.line.now word.2.0
     c.in-Letter.letter behind.result word.2.1 (omega arith) behind.ensures.bytes found.ensures
 
-pub returns-in-ok-number-3 : goal.returns-in-ok-number-3
-returns-in-ok-number-3 c =
+pub returns-in_ok-number-in-A : goal.returns-in_ok-number-in-A
+returns-in_ok-number-in-A c =
     let word = c.in-Letter.ensures in
     let behind = c.behind-rest in
-    let found = c.in-ok-number-3 in
+    let found = c.in_ok-number-in-A in
     answers_call (call.Arrive found.number) c.args.line.now word.2.0
     c.in-Letter.letter behind.result word.2.1 (omega arith) behind.ensures.bytes found.ensures
 
-pub returns-in-ok-at-end : goal.returns-in-ok-at-end
-returns-in-ok-at-end c =
+pub returns-in_ok-at_end-in-L : goal.returns-in_ok-at_end-in-L
+returns-in_ok-at_end-in-L c =
     let word = c.in-Letter.ensures in
     let behind = c.behind-rest in
-    let found = c.in-ok-at-end in
+    let found = c.in_ok-at_end-in-L in
     answers_call call.List c.args.line.now word.2.0
     c.in-Letter.letter behind.result word.2.1 (omega arith) behind.ensures.bytes found.ensures

@@ -16,12 +16,12 @@ value_of-requires c =
     let long = ap length behind.joined in
     record { digits = word.1.all; some = word.1.some; fits = omega (arith, run_fits word.1) }
 
-pub returns-in-err-number : goal.returns-in-err-number
-returns-in-err-number c =
-    let exit = c.from-residual-in-err-number in
+pub returns-in_err-number-in-Digits : goal.returns-in_err-number-in-Digits
+returns-in_err-number-in-Digits c =
+    let exit = c.from_residual-in_err-number-in-Digits in
     let error = err_from_is_err_and exit.result exit.ensures.1 in
     let word = c.in-Digits.ensures in
-    let value = c.in-err-number.ensures in
+    let value = c.in_err-number-in-Digits.ensures in
     let here = value.1 ∙ ap (λ k. k + value.0) word.0 in
     rw (error.1, error.2)
     (too_large c.args.rest.bytes.now c.args.rest.column c.in_ok-rest.rest
@@ -34,11 +34,11 @@ behind-requires c =
     let long = ap length behind.joined in
     record { within = run_fits word.1; fits = omega arith }
 
-pub returns-in-ok-number : goal.returns-in-ok-number
-returns-in-ok-number c =
+pub returns-in_ok-number-in-Digits : goal.returns-in_ok-number-in-Digits
+returns-in_ok-number-in-Digits c =
     taken c.args.rest.bytes.now c.args.rest.column c.in_ok-rest.rest
-    c.in_ok-rest.ensures c.in-Digits.digits.now c.in-ok-number.number c.behind.result
-    c.in-Digits.ensures.1 c.in-ok-number.ensures c.behind.ensures.bytes
+    c.in_ok-rest.ensures c.in-Digits.digits.now c.in_ok-number-in-Digits.number c.behind.result
+    c.in-Digits.ensures.1 c.in_ok-number-in-Digits.ensures c.behind.ensures.bytes
     c.behind.ensures.column
 
 pub returns-in-Letter : goal.returns-in-Letter

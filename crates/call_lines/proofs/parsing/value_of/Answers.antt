@@ -3,8 +3,8 @@ use Rattle.std.proofs.lemmas.List.{length-take-le, take_all}
 use Rattle.call_lines.proofs.Digits.{digits_at, passes_limit, read_on_more}
 use Rattle.call_lines.proofs.parsing.value_of.Goals as goal
 use Rattle.call_lines.proofs.parsing.value_of.Goals.{
-  then-place-eq-MOST-DIGITS-via-then-place-eq-MOST-DIGITS,
-  then-place-eq-MOST-DIGITS-via-else-place-eq-MOST-DIGITS+then-value,
+  then-place-eq-MOST_DIGITS-via-then-place-eq-MOST_DIGITS,
+  then-place-eq-MOST_DIGITS-via-else-place-eq-MOST_DIGITS+then-value,
 }
 
 pub overflow_sub-value : goal.overflow_sub-value
@@ -26,8 +26,8 @@ returns-then-place-eq-MOST_DIGITS c =
       passes_limit digits place c.requires.digits inside (omega arith) (omega arith)
           (λ under.
           elim c.then-place-eq-MOST_DIGITS.branch [
-            | then-place-eq-MOST-DIGITS-via-then-place-eq-MOST-DIGITS w ↦ absurd (omega arith)
-            | then-place-eq-MOST-DIGITS-via-else-place-eq-MOST-DIGITS+then-value w ↦ omega arith
+            | then-place-eq-MOST_DIGITS-via-then-place-eq-MOST_DIGITS w ↦ absurd (omega arith)
+            | then-place-eq-MOST_DIGITS-via-else-place-eq-MOST_DIGITS+then-value w ↦ omega arith
           ]),
     )
 

@@ -24,7 +24,8 @@ loop-closure-preserved c =
     let rules = closure_rules c.args.settings c.args.segments in
     let loop = c.loop-closure in
     let taken = c.in-Some in
-    let none : first_broken (rules taken.closure) ≡ None = search rules in (
+    let none : first_broken (rules taken.closure) ≡ None =
+    sym c.closure_refusal.ensures ∙ c.in_default-closure_refusal.is in (
       loop.invariant.0
           ∙ next_sound closure_layout rules 3 loop.place loop.rest.now taken.closure taken.after taken.ensures none,
       omega (arith, loop.invariant.1, taken.ensures.0),

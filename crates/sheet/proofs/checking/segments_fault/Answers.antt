@@ -24,7 +24,8 @@ loop-segment-preserved c =
     let rules = segment_rules c.args.settings in
     let loop = c.loop-segment in
     let taken = c.in-Some in
-    let none : first_broken (rules taken.segment) ≡ None = search rules in (
+    let none : first_broken (rules taken.segment) ≡ None =
+    sym c.segment_refusal.ensures ∙ c.in_default-segment_refusal.is in (
       loop.invariant.0
           ∙ next_sound segment_layout rules 2 loop.place loop.rest.now taken.segment taken.after taken.ensures none,
       omega (arith, loop.invariant.1, taken.ensures.0),

@@ -29,4 +29,4 @@ returns c =
     let bytes = c.args.bytes.now in
     let format : field 1 0 bytes ≡ get_or bytes 0 0 = field_one 0 bytes (omega arith) in
     let sections : field 1 1 bytes ≡ get_or bytes 1 0 = field_one 1 bytes (omega arith) in
-    record { first = search rules; whole = λ none. omega arith; bytes = λ none. under_typed bytes c.type-inv.bytes }
+    record { first = search rules; whole = λ none. omega arith; bytes = λ none. under_typed bytes c.type_inv.bytes }

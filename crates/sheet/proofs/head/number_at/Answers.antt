@@ -6,7 +6,7 @@ use Rattle.sheet.proofs.head.number_at.Goals as goal
 pub loop-i-preserved : goal.loop-i-preserved
 loop-i-preserved c =
     let i = c.loop-i.i in
-    let byte = (c.type-inv.bytes (c.args.place + i)).fits in
+    let byte = (c.type_inv.bytes (c.args.place + i)).fits in
     let more = field_more i c.args.place c.args.bytes.now (omega arith) in
     (omega (arith, more), omega (arith, width_more i))
 
@@ -16,7 +16,7 @@ overflow_mul-number c = let room : 256 ^ c.loop-i.i ≤ 256 ^ 3 = width_below c.
 pub overflow_add-number : goal.overflow_add-number
 overflow_add-number c =
     let room : 256 ^ c.loop-i.i ≤ 256 ^ 3 = width_below c.loop-i.i 3 (omega arith) in
-    let byte = (c.type-inv.bytes (c.args.place + c.loop-i.i)).fits in
+    let byte = (c.type_inv.bytes (c.args.place + c.loop-i.i)).fits in
     omega arith
 
 pub returns : goal.returns

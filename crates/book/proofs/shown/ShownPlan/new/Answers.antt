@@ -21,30 +21,20 @@ invariant_of-result c =
     let sized = c.loop-number.invariant.0 in
     let enough : n ≤ length numbers = omega (arith, count, few, sized) in
     let each : (i : ℕ) → i < n → road_of (get_or numbers i no_numbers) ≡ get_or (plan_shown told).roads i no_road =
-    λ i known. c.loop-number.invariant.1 i (omega (arith, count, asked, c.loop-number-test.false, known)) in (
-      sized,
-      (
-        omega (arith, horizon, sizes.some_slot),
-        (
-          omega (arith, horizon, sizes.few_slots),
-          (
-            omega (arith, junctions, sizes.two_junctions),
-            (
-              omega (arith, junctions, sizes.few_junctions),
-              (
-                omega (arith, count, few),
-                (
-                  λ i known.
-                      subst (λ j. Joins j (get_or (roads_of n numbers) i no_road)) (sym junctions)
-                      (roads_join told fits n numbers count enough each i known),
-                  (roads_measure told fits n numbers count enough each, tt),
-                ),
-              ),
-            ),
-          ),
-        ),
-      ),
-    )
+    λ i known. c.loop-number.invariant.1 i (omega (arith, count, asked, c.loop-number-test.false, known)) in
+    record {
+      sized = sized;
+      some_slot = omega (arith, horizon, sizes.some_slot);
+      few_slots = omega (arith, horizon, sizes.few_slots);
+      two_junctions = omega (arith, junctions, sizes.two_junctions);
+      few_junctions = omega (arith, junctions, sizes.few_junctions);
+      few_segments = omega (arith, count, few);
+      joined =
+          λ i known.
+              subst (λ j. Joins j (get_or (roads_of n numbers) i no_road)) (sym junctions)
+              (roads_join told fits n numbers count enough each i known);
+      measured = roads_measure told fits n numbers count enough each;
+    }
 
 pub returns : goal.returns
 returns c =
