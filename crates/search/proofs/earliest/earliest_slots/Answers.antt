@@ -8,12 +8,12 @@ use Rattle.search.proofs.earliest.earliest_slots.Goals as goal
 
 pub unreachable-requires : goal.unreachable-requires
 unreachable-requires g c =
-    let full = c.in-default.ensures.outcome.full in
+    let full = c.in_default.ensures.outcome.full in
     let empty = ap length c.new-queue.ensures.empty in
     omega (arith, full, empty, c.new-queue.ensures.room, c.requires.room)
 
-pub settle-all-requires : goal.settle-all-requires
-settle-all-requires g c =
+pub settle_all-requires : goal.settle_all-requires
+settle_all-requires g c =
     let queue = c.put.new.self in
     let first = subst (λ (q : List Label). IsPermutation (label c.args.slot c.args.origin ∷ q) (held queue))
     c.new-queue.ensures.empty c.in-Ok.ensures.outcome.one_more in
@@ -33,7 +33,7 @@ returns g c =
     let queue = c.put.new.self in
     let first = subst (λ (q : List Label). IsPermutation (label c.args.slot c.args.origin ∷ q) (held queue))
     c.new-queue.ensures.empty c.in-Ok.ensures.outcome.one_more in
-    c.settle-all.ensures c.args.origin c.args.slot c.requires.known c.requires.early
+    c.settle_all.ensures c.args.origin c.args.slot c.requires.known c.requires.early
     (waits_first (g.B.Book.meaning c.args.book.now) (g.B.Book.sound c.args.book.now) c.args.origin
     c.args.slot (held queue) c.requires.known c.requires.early first (room queue)
     (omega (arith, c.put.ensures.room, c.new-queue.ensures.room, c.requires.room)))

@@ -6,10 +6,10 @@ use Rattle.walks.proofs.Queues.{keeps_none}
 use Rattle.search.proofs.Showing.{relaxed_better, relaxed_kept, relaxed_none, shown_slot, shows}
 use Rattle.search.proofs.earliest.relax.Goals as goal
 
-pub returns-in-default : goal.returns-in-default
-returns-in-default g c =
+pub returns-in_default : goal.returns-in_default
+returns-in_default g c =
     let m = g.B.Book.meaning c.args.book.now in
-    absurd (omega (arith, c.requires.known, segment_none m c.args.segment c.in-default.ensures))
+    absurd (omega (arith, c.requires.known, segment_none m c.args.segment c.in_default.ensures))
 
 pub returns-then-start-junction : goal.returns-then-start-junction
 returns-then-start-junction g c =
@@ -25,21 +25,21 @@ bounds-best-start g c =
     let start = (shows (g.B.Book.sound c.args.book.now) c.in-Some.ensures).start_known in
     omega (arith, start, c.requires.table)
 
-pub returns-in-default-next-entry : goal.returns-in-default-next-entry
-returns-in-default-next-entry g c =
+pub returns-in_default-next_entry : goal.returns-in_default-next_entry
+returns-in_default-next_entry g c =
     let shown = shows (g.B.Book.sound c.args.book.now) c.in-Some.ensures in
     record {
-      here = λ _. relaxed_none shown c.args.best.now (held c.args.queue.now) c.in-default-next-entry.ensures;
+      here = λ _. relaxed_none shown c.args.best.now (held c.args.queue.now) c.in_default-next_entry.ensures;
       elsewhere = λ apart. absurd (apart (sym shown.start_is ∙ c.if-start-junction.false));
       keeps = keeps_none c.args.queue.now;
     }
 
-pub overflow-add-slot : goal.overflow-add-slot
-overflow-add-slot g c =
+pub overflow_add-slot : goal.overflow_add-slot
+overflow_add-slot g c =
     let sound = g.B.Book.sound c.args.book.now in
     let shown = shows sound c.in-Some.ensures in
-    let low = shown_slot shown c.args.best.now (held c.args.queue.now) c.in-Some-next-entry.entry
-    c.in-Some-next-entry.ensures sound in
+    let low = shown_slot shown c.args.best.now (held c.args.queue.now) c.in-Some-next_entry.entry
+    c.in-Some-next_entry.ensures sound in
     record { fits = omega (arith, low) }
 
 pub bounds-best-end : goal.bounds-best-end
@@ -52,8 +52,8 @@ returns-then-slot-best g c =
     let shown = shows (g.B.Book.sound c.args.book.now) c.in-Some.ensures in
     record {
       here = λ _.
-          relaxed_kept shown c.args.best.now (held c.args.queue.now) c.in-Some-next-entry.entry
-          c.in-Some-next-entry.ensures c.if-slot-best.true;
+          relaxed_kept shown c.args.best.now (held c.args.queue.now) c.in-Some-next_entry.entry
+          c.in-Some-next_entry.ensures c.if-slot-best.true;
       elsewhere = λ apart. absurd (apart (sym shown.start_is ∙ c.if-start-junction.false));
       keeps = keeps_none c.args.queue.now;
     }
@@ -67,15 +67,15 @@ pub unreachable-requires : goal.unreachable-requires
 unreachable-requires g c =
     let shown = shows (g.B.Book.sound c.args.book.now) c.in-Some.ensures in
     let has_room = c.requires.room (sym shown.start_is ∙ c.if-start-junction.false) in
-    omega (arith, has_room, c.in-default-put.ensures.outcome.full)
+    omega (arith, has_room, c.in_default-put.ensures.outcome.full)
 
 pub returns : goal.returns
 returns g c =
     let shown = shows (g.B.Book.sound c.args.book.now) c.in-Some.ensures in
     record {
       here = λ _.
-          relaxed_better shown c.args.best.now (held c.args.queue.now) c.in-Some-next-entry.entry
-          c.in-Some-next-entry.ensures (held c.put.new.self) c.if-slot-best.false
+          relaxed_better shown c.args.best.now (held c.args.queue.now) c.in-Some-next_entry.entry
+          c.in-Some-next_entry.ensures (held c.put.new.self) c.if-slot-best.false
           c.in-Ok.ensures.outcome.one_more;
       elsewhere = λ apart. absurd (apart (sym shown.start_is ∙ c.if-start-junction.false));
       keeps = record { same_room = c.put.ensures.room; heap = c.put.ensures.heap };

@@ -70,4 +70,4 @@ loop-label-preserved g c =
 
 pub returns : goal.returns
 returns g c =
-    follows_solves c.loop-label.invariant (g.B.Book.sound c.args.book.now) c.in-default.ensures.outcome.empty
+    follows_solves c.loop-label.invariant (g.B.Book.sound c.args.book.now) c.in_default.ensures.outcome.empty

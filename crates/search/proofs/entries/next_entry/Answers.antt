@@ -5,5 +5,5 @@ use Rattle.search.proofs.entries.next_entry.Goals as goal
 
 pub returns : goal.returns
 returns g c =
-    subst (λ m. NextEntry m c.args.segment c.args.from c.next-entry-held-back.result)
-    (held_none (g.B.Book.meaning c.args.book.now)) c.next-entry-held-back.ensures
+    subst (λ m. NextEntry m c.args.segment c.args.from c.next_entry_held_back.result)
+    (held_none (g.B.Book.meaning c.args.book.now)) c.next_entry_held_back.ensures

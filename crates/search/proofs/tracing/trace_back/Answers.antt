@@ -5,10 +5,10 @@ use Rattle.search.proofs.tracing.trace_back.Goals as goal
 pub unreachable-requires : goal.unreachable-requires
 unreachable-requires g c =
     trace_goes_on c.loop-junction.invariant (g.B.Book.sound c.args.book.now) c.requires.solved c.requires.origin_known
-    c.loop-junction-test.true c.in-default.ensures
+    c.loop-junction-test.true c.in_default.ensures
 
-pub overflow-sub-first : goal.overflow-sub-first
-overflow-sub-first g c =
+pub overflow_sub-first : goal.overflow_sub-first
+overflow_sub-first g c =
     trace_room c.loop-junction.invariant (g.B.Book.sound c.args.book.now) c.requires.solved c.requires.origin_known
     c.loop-junction-test.true
 

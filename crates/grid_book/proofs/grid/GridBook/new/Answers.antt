@@ -6,12 +6,14 @@ use Rattle.grid_book.specs.Grid.{bytes_of}
 use Rattle.grid_book.proofs.Cells.{counts_none, grid_none}
 use Rattle.grid_book.proofs.grid.GridBook.new.Goals as goal
 
-pub invariant-of-result : goal.invariant-of-result
-invariant-of-result c =
-    let s = shown_of c.new-shown.result in (
-      λ kept. absurd (false≢true kept),
-      (sym (counts_none s false c.args.memory.now (λ kept. absurd (false≢true kept))), (omega arith, tt)),
-    )
+pub invariant_of-result : goal.invariant_of-result
+invariant_of-result c =
+    let s = shown_of c.new-shown.result in
+    record {
+      room = λ kept. absurd (false≢true kept);
+      counted = sym (counts_none s false c.args.memory.now (λ kept. absurd (false≢true kept)));
+      few = omega arith;
+    }
 
 pub returns-then-memory-bytes : goal.returns-then-memory-bytes
 returns-then-memory-bytes c =
@@ -20,29 +22,28 @@ returns-then-memory-bytes c =
       meaning =
           grid_none s false c.args.memory.now (λ kept. absurd (false≢true kept))
           ∙ ap (λ x. no_legs x true) c.new-shown.ensures
-          ∙ ap (no_legs _) (sym (lt-ltb _ _ (omega (arith, c.grid-bytes-bytes.ensures, c.if-memory-bytes.true))));
-      too-little = λ _. refl;
+          ∙ ap (no_legs _) (sym (lt-ltb _ _ (omega (arith, c.grid_bytes-bytes.ensures, c.if-memory-bytes.true))));
+      too_little = λ _. refl;
       rest = refl;
       lent = refl;
     }
 
-pub invariant-of-result-2 : goal.invariant-of-result-2
-invariant-of-result-2 c =
+pub invariant_of-result-2 : goal.invariant_of-result-2
+invariant_of-result-2 c =
     let s = shown_of c.new-shown.result in
-    let bytes = c.grid-bytes-bytes.ensures in
-    let same = ap bytes_of c.new-shown.ensures in (
-      λ _. omega (arith, same, bytes),
-      (
-        sym (counts_none s true c.clear.new.cells
-            (λ _ k below. c.clear.ensures.cleared k (omega (arith, same, bytes, below)))),
-        (omega arith, tt),
-      ),
-    )
+    let bytes = c.grid_bytes-bytes.ensures in
+    let same = ap bytes_of c.new-shown.ensures in
+    record {
+      room = λ _. omega (arith, same, bytes);
+      counted = sym (counts_none s true c.clear.new.cells
+            (λ _ k below. c.clear.ensures.cleared k (omega (arith, same, bytes, below))));
+      few = omega arith;
+    }
 
 pub returns : goal.returns
 returns c =
     let s = shown_of c.new-shown.result in
-    let bytes = c.grid-bytes-bytes.ensures in
+    let bytes = c.grid_bytes-bytes.ensures in
     let same = ap bytes_of c.new-shown.ensures in
     record {
       meaning =
@@ -50,7 +51,7 @@ returns c =
           (λ _ k below. c.clear.ensures.cleared k (omega (arith, same, bytes, below)))
           ∙ ap (λ x. no_legs x false) c.new-shown.ensures
           ∙ ap (no_legs _) (sym (le-ltb _ _ (omega (arith, bytes, c.if-memory-bytes.false))));
-      too-little = λ short. absurd (omega (arith, bytes, c.if-memory-bytes.false, short));
+      too_little = λ short. absurd (omega (arith, bytes, c.if-memory-bytes.false, short));
       rest =
           ap (λ n. drop n c.clear.new.cells) (sym bytes)
           ∙ c.clear.ensures.rest

@@ -3,8 +3,8 @@ use Rattle.book.specs.ShownPlan.{shown_of}
 use Rattle.grid_book.proofs.Cells.{row_within}
 use Rattle.grid_book.proofs.grid.GridBook.row.Goals as goal
 
-pub slice-bounds-result-end : goal.slice-bounds-result-end
-slice-bounds-result-end c =
+pub slice_bounds-result-end : goal.slice_bounds-result-end
+slice_bounds-result-end c =
     let b = c.args.self.now in
     let i = c.args.segment in
     let same = ap (λ h. i * h + h) c.sizes-horizon.ensures.horizon in

@@ -8,5 +8,5 @@ pub returns : goal.returns
 returns c =
     let told = content c.args.plan.now in
     ap₂ ◌*◌
-    (c.segment-count.ensures ∙ sym (length-map told.segments (road_in told.settings)))
+    (c.segment_count.ensures ∙ sym (length-map told.segments (road_in told.settings)))
     (ap (λ s. s.horizon) c.settings.ensures.value)

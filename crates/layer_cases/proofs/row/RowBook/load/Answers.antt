@@ -13,7 +13,7 @@ loop-start-preserved c =
     let f = (row_of c.args.self.now).standing 0 in
     let u = c.args.self.now.slots in
     let next = ap (λ n. load_below n f u c.args.slot) (add-one c.loop-start.start) in
-    (omega (arith, next, c.held-by-load.ensures.value), omega (arith, c.held-by-load.ensures.bound))
+    (omega (arith, next, c.held_by-load.ensures.value), omega (arith, c.held_by-load.ensures.bound))
 
 pub returns : goal.returns
 returns c =

@@ -6,21 +6,21 @@ use Rattle.book.proofs.Segments.{segment_none, segment_some}
 use Rattle.layers.specs.Closures.{ClosedUntil, kept_closures}
 use Rattle.layers.proofs.closures.ClosureLayer.barred_until.Goals as goal
 
-pub returns-in-err-slots : goal.returns-in-err-slots
-returns-in-err-slots g c =
+pub returns-in_err-slots : goal.returns-in_err-slots
+returns-in_err-slots g c =
     let layer = c.args.self.now in
     let m = g.B.Book.meaning layer.below in
     let i = c.args.leg.segment in
-    let past = segment_none m i c.in-err-slots.ensures in
-    subst (ClosedUntil (closing (kept_closures layer) m.shown i) c.args.leg.entry) (sym c.from-residual.ensures)
+    let past = segment_none m i c.in_err-slots.ensures in
+    subst (ClosedUntil (closing (kept_closures layer) m.shown i) c.args.leg.entry) (sym c.from_residual.ensures)
     (closing_unknown (kept_closures layer) m i c.args.leg.entry past)
 
-pub closed-until-requires : goal.closed-until-requires
-closed-until-requires g c =
+pub closed_until-requires : goal.closed_until-requires
+closed_until-requires g c =
     let below = c.args.self.now.below in
     let m = g.B.Book.meaning below in
     let i = c.args.leg.segment in
-    let found = segment_some m i _ c.in-ok-slots.ensures in
+    let found = segment_some m i _ c.in_ok-slots.ensures in
     let slots = ap (λ (q : ℕ × ℕ × ℕ × ℕ). q.2) found.1 in
     let takes = ((g.B.Book.sound below).plan_fits.roads_fit i found.0).takes_a_slot in
     omega (arith, slots, takes)
@@ -30,11 +30,11 @@ returns g c =
     let layer = c.args.self.now in
     let m = g.B.Book.meaning layer.below in
     let i = c.args.leg.segment in
-    let found = segment_some m i _ c.in-ok-slots.ensures in
+    let found = segment_some m i _ c.in_ok-slots.ensures in
     let slots = ap (λ (q : ℕ × ℕ × ℕ × ℕ). q.2) found.1 in
     let kept : take (c.min-count.result - 0) layer.closures ≡ kept_closures layer =
     ap (λ n. take n layer.closures)
     (let same : c.min-count.result - 0 ≡ min layer.count 16 = omega (arith, c.min-count.ensures) in same) in
     let bars = ap₂ (λ ks u. closed_by ks i u) kept slots
     ∙ sym (fun_ext (λ e. closing_known (kept_closures layer) m i e found.0)) in
-    subst (λ shut. ClosedUntil shut c.args.leg.entry c.closed-until.result) bars c.closed-until.ensures
+    subst (λ shut. ClosedUntil shut c.args.leg.entry c.closed_until.result) bars c.closed_until.ensures

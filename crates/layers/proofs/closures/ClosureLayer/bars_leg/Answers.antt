@@ -5,13 +5,13 @@ use Rattle.book.proofs.Segments.{segment_none, segment_some}
 use Rattle.layers.specs.Closures.{kept_closures}
 use Rattle.layers.proofs.closures.ClosureLayer.bars_leg.Goals as goal
 
-pub returns-in-default : goal.returns-in-default
-returns-in-default g c =
+pub returns-in_default : goal.returns-in_default
+returns-in_default g c =
     let layer = c.args.self.now in
     let m = g.B.Book.meaning layer.below in
     let segment = c.args.leg.segment in
     sym (closing_unknown (kept_closures layer) m segment c.args.leg.entry
-    (segment_none m segment c.in-default.ensures))
+    (segment_none m segment c.in_default.ensures))
 
 pub returns : goal.returns
 returns g c =
@@ -23,6 +23,6 @@ returns g c =
     let slots = ap (λ (q : ℕ × ℕ × ℕ × ℕ). q.2) found.1 in
     let kept : take (c.min-count.result - 0) layer.closures ≡ kept_closures layer =
     ap (λ n. take n layer.closures) (let same : c.min-count.result - 0 ≡ min layer.count 16 = omega arith in same) in
-    c.closed-by-some.ensures
+    c.closed_by_some.ensures
     ∙ ap₂ (λ ks u. closed_by ks segment u entry) kept slots
     ∙ sym (closing_known (kept_closures layer) m segment entry found.0)

@@ -5,9 +5,9 @@ use Rattle.layers.proofs.closures.ClosureLayer.new.Goals as goal
 
 pub returns : goal.returns
 returns g c =
-    let copied = c.copy-from-slice.ensures.after ∙ c.closures.ensures in
+    let copied = c.copy_from_slice.ensures.after ∙ c.closures.ensures in
     let few = (plan_fits c.args.plan.now).few_closures in
     let long = ap length copied in
-    let count : length c.copy-from-slice.new.self ≡ min c.closure-count-count.result 16 =
-    omega (arith, long, few, c.closure-count-count.ensures) in
-    record { below = refl; closures = take_at c.copy-from-slice.new.self _ _ count ∙ copied }
+    let count : length c.copy_from_slice.new.self ≡ min c.closure_count-count.result 16 =
+    omega (arith, long, few, c.closure_count-count.ensures) in
+    record { below = refl; closures = take_at c.copy_from_slice.new.self _ _ count ∙ copied }

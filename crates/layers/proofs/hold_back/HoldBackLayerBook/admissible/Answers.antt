@@ -12,7 +12,7 @@ returns-then-admissible g c =
     let held = c.args.self.now.held in
     let l = c.args.leg in
     let admitted : admissible m l ≡ true = sym c.if-admissible.ensures in
-    let room = c.has-room-held-back.ensures (admitted_known m l admitted) (admitted_within m l admitted) in
+    let room = c.has_room_held_back.ensures (admitted_known m l admitted) (admitted_within m l admitted) in
     room ∙ ap (λ b. b && has_room (held_back held m) l) (sym admitted) ∙ sym (admissible_held held m l)
 
 pub returns-else-admissible : goal.returns-else-admissible

@@ -7,7 +7,7 @@ pub returns : goal.returns
 returns g c =
     let layer = c.args.self.now in
     let m = g.B.Book.meaning layer.below in
-    let both = c.saturating-add-held.ensures in
-    c.admissible-held-back.ensures
+    let both = c.saturating_add-held.ensures in
+    c.admissible_held_back.ensures
     ∙ ap (λ x. admissible x c.args.leg)
     (sym (held_twice layer.held c.args.held _ m (g.B.Book.sound layer.below) both))

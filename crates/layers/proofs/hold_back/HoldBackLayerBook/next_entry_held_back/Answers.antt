@@ -7,7 +7,7 @@ pub returns : goal.returns
 returns g c =
     let layer = c.args.self.now in
     let m = g.B.Book.meaning layer.below in
-    let both = c.saturating-add-held.ensures in
-    subst (λ x. NextEntry x c.args.segment c.args.from c.next-entry-held-back.result)
+    let both = c.saturating_add-held.ensures in
+    subst (λ x. NextEntry x c.args.segment c.args.from c.next_entry_held_back.result)
     (sym (held_twice layer.held c.args.held _ m (g.B.Book.sound layer.below) both))
-    c.next-entry-held-back.ensures
+    c.next_entry_held_back.ensures

@@ -3,7 +3,7 @@ use Rattle.std.proofs.lemmas.List.{take_all}
 use Rattle.std.proofs.lemmas.List.Sums.{count_by_more_no, count_by_more_yes}
 use Rattle.leg_book.specs.Records.{count_at, is_leg, no_record}
 use Rattle.leg_book.proofs.legs.booked.count_of.Goals as goal
-use Rattle.leg_book.proofs.legs.booked.count_of.Goals.{else_is, then_is}
+use Rattle.leg_book.proofs.legs.booked.count_of.Goals.{else-is, then-is}
 
 pub loop-item-preserved : goal.loop-item-preserved
 loop-item-preserved c =
@@ -13,10 +13,10 @@ loop-item-preserved c =
     let within = c.loop-item-test.true in
     let was = c.loop-item.invariant in
     elim c.if-is.branch [
-      | then_is w ↦
+      | then-is w ↦
           let more = count_by_more_yes test rs k no_record within (sym c.is.ensures ∙ w.if-is.true) in
           (omega (arith, was.0, w.count-is), omega (arith, was.1, w.count-is, more))
-      | else_is w ↦
+      | else-is w ↦
           let same = count_by_more_no test rs k no_record within (sym c.is.ensures ∙ w.if-is.false) in
           (omega (arith, was.0, w.count-is), omega (arith, was.1, w.count-is, same))
     ]

@@ -6,4 +6,4 @@ use Rattle.grid_book.proofs.grid.booked.GridBookBook.admissible.Goals as goal
 
 pub returns : goal.returns
 returns c =
-    c.admissible-held-back.ensures ∙ ap (λ m. admissible m c.args.leg) (held_none (grid_of c.args.self.now))
+    c.admissible_held_back.ensures ∙ ap (λ m. admissible m c.args.leg) (held_none (grid_of c.args.self.now))

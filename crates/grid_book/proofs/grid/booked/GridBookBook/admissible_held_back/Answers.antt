@@ -11,11 +11,11 @@ returns-then-not-self c =
     sym (barred_not_admitted c.args.held (grid_of c.args.self.now) c.args.leg
     (ap not c.if-not-self.true))
 
-pub returns-in-default : goal.returns-in-default
-returns-in-default c =
+pub returns-in_default : goal.returns-in_default
+returns-in_default c =
     let m = grid_of c.args.self.now in
     sym (unknown_not_admitted c.args.held m c.args.leg
-    (segment_none m c.args.leg.segment c.in-default.ensures))
+    (segment_none m c.args.leg.segment c.in_default.ensures))
 
 pub row-requires : goal.row-requires
 row-requires c =
@@ -37,11 +37,11 @@ returns c =
     let slots = ap (λ (q : ℕ × ℕ × ℕ × ℕ). q.2) numbers.1 in
     let count = ap (λ (q : ℕ × ℕ × ℕ × ℕ). q.3) numbers.1 in
     let row = c.row.result.now in
-    c.is-some.ensures
+    c.is_some.ensures
     ∙ admitted_told c.args.held m i row known (λ e. ap not kept)
     (ap length c.row.ensures ∙ row_length s b.kept b.cells.now b.room i kept known)
     (λ e. row_stands s b.kept b.cells.now b.room i kept known e
     ∙ ap (λ xs. get_or xs e 0) (sym c.row.ensures))
     ((grid_sound b).plan_fits.roads_fit i known).takes_a_slot _ _ slots
-    (omega (arith, count, c.saturating-sub-limit.ensures))
-    c.args.leg.entry c.first-entry.result c.first-entry.ensures
+    (omega (arith, count, c.saturating_sub-limit.ensures))
+    c.args.leg.entry c.first_entry.result c.first_entry.ensures

@@ -8,8 +8,8 @@ use Rattle.grid_book.specs.GridBook.{grid_of}
 use Rattle.grid_book.proofs.Cells.{counts_less, one_less, reads}
 use Rattle.grid_book.proofs.grid.booked.GridBookBook.free.Goals as goal
 
-pub overflow-sub-self-2 : goal.overflow-sub-self-2
-overflow-sub-self-2 c =
+pub overflow_sub-self-2 : goal.overflow_sub-self-2
+overflow_sub-self-2 c =
     let b = c.args.self.now in
     let s = shown_of b.plan in
     let l = c.args.leg in
@@ -21,8 +21,8 @@ overflow-sub-self-2 c =
     let some : 1 ≤ get_or b.cells.now p 0 = omega (arith, here, c.standing.ensures, c.if-standing-eq0.false) in
     omega (arith, counts_less s b.kept b.cells.now b.room l p at is some, b.counted)
 
-pub invariant-of-self : goal.invariant-of-self
-invariant-of-self c =
+pub invariant_of-self : goal.invariant_of-self
+invariant_of-self c =
     let b = c.args.self.now in
     let s = shown_of b.plan in
     let l = c.args.leg in
@@ -34,10 +34,12 @@ invariant-of-self c =
     let some : 1 ≤ get_or b.cells.now p 0 = omega (arith, here, c.standing.ensures, c.if-standing-eq0.false) in
     let less = counts_less s b.kept b.cells.now b.room l p at is some in
     let counted = b.counted in
-    let few = b.few in (
-      λ kept. omega (arith, b.room kept, length-set b.cells.now p (get_or b.cells.now p 0 - 1)),
-      (omega (arith, less, counted), (omega (arith, few), tt)),
-    )
+    let few = b.few in
+    record {
+      room = λ kept. omega (arith, b.room kept, length-set b.cells.now p (get_or b.cells.now p 0 - 1));
+      counted = omega (arith, less, counted);
+      few = omega (arith, few);
+    }
 
 pub returns : goal.returns
 returns c =

@@ -16,10 +16,10 @@ returns-then-not-self c =
     sym (load_none (grid_of b) c.args.segment c.args.slot
     (shut_stands s b.kept (byte_at s b.cells.now) c.args.segment c.if-not-self.true))
 
-pub returns-in-default : goal.returns-in-default
-returns-in-default c =
+pub returns-in_default : goal.returns-in_default
+returns-in_default c =
     let m = grid_of c.args.self.now in
-    sym (load_unknown m c.args.segment c.args.slot (segment_none m c.args.segment c.in-default.ensures))
+    sym (load_unknown m c.args.segment c.args.slot (segment_none m c.args.segment c.in_default.ensures))
 
 pub row-requires : goal.row-requires
 row-requires c =
@@ -38,7 +38,7 @@ returns c =
     let kept : b.kept ≡ true = c.if-not-self.false in
     let numbers = segment_some m i _ c.in-Some.ensures in
     let slots = ap (λ (q : ℕ × ℕ × ℕ × ℕ). q.2) numbers.1 in
-    c.load-of.ensures
+    c.load_of.ensures
     ∙ load_told m i _ c.row.result.now slots
     (ap length c.row.ensures ∙ row_length s b.kept b.cells.now b.room i kept numbers.0)
     (λ e.

@@ -10,10 +10,10 @@ pub returns-then-not-self : goal.returns-then-not-self
 returns-then-not-self c k later =
     barred_not_admitted c.args.held (grid_of c.args.self.now) _ (ap not c.if-not-self.true)
 
-pub returns-in-default : goal.returns-in-default
-returns-in-default c k later =
+pub returns-in_default : goal.returns-in_default
+returns-in_default c k later =
     let m = grid_of c.args.self.now in
-    unknown_not_admitted c.args.held m _ (segment_none m c.args.segment c.in-default.ensures)
+    unknown_not_admitted c.args.held m _ (segment_none m c.args.segment c.in_default.ensures)
 
 pub row-requires : goal.row-requires
 row-requires c =
@@ -40,7 +40,7 @@ returns c =
     (λ e. row_stands s b.kept b.cells.now b.room i kept known e
     ∙ ap (λ xs. get_or xs e 0) (sym c.row.ensures))
     ((grid_sound b).plan_fits.roads_fit i known).takes_a_slot _ _ slots
-    (omega (arith, count, c.saturating-sub-limit.ensures))
-    c.args.from c.saturating-sub-last.result c.first-entry.result
-    (omega (arith, slots, c.saturating-sub-last.ensures, c.sizes.ensures.horizon))
-    c.first-entry.ensures
+    (omega (arith, count, c.saturating_sub-limit.ensures))
+    c.args.from c.saturating_sub-last.result c.first_entry.result
+    (omega (arith, slots, c.saturating_sub-last.ensures, c.sizes.ensures.horizon))
+    c.first_entry.ensures

@@ -15,8 +15,8 @@ place-place-requires c =
     admitted_kept s b.kept (byte_at s b.cells.now) c.args.leg (shown_fits b.plan)
     (sym c.if-not-admissible.ensures)
 
-pub overflow-add-self : goal.overflow-add-self
-overflow-add-self c =
+pub overflow_add-self : goal.overflow_add-self
+overflow_add-self c =
     let b = c.args.self.now in
     let s = shown_of b.plan in
     let l = c.args.leg in
@@ -27,8 +27,8 @@ overflow-add-self c =
     c.place-place.ensures.is in
     record { fits = omega (arith, few, here) }
 
-pub invariant-of-self : goal.invariant-of-self
-invariant-of-self c =
+pub invariant_of-self : goal.invariant_of-self
+invariant_of-self c =
     let b = c.args.self.now in
     let s = shown_of b.plan in
     let l = c.args.leg in
@@ -36,10 +36,12 @@ invariant-of-self c =
     let admitted = sym c.if-not-admissible.ensures in
     let at = admitted_kept s b.kept (byte_at s b.cells.now) l (shown_fits b.plan) admitted in
     let more = counts_more s b.kept b.cells.now b.room l p at c.place-place.ensures.is in
-    let counted = b.counted in (
-      λ kept. omega (arith, b.room kept, length-set b.cells.now p (get_or b.cells.now p 0 + 1)),
-      (omega (arith, more, counted), (omega arith, tt)),
-    )
+    let counted = b.counted in
+    record {
+      room = λ kept. omega (arith, b.room kept, length-set b.cells.now p (get_or b.cells.now p 0 + 1));
+      counted = omega (arith, more, counted);
+      few = omega arith;
+    }
 
 pub returns : goal.returns
 returns c =

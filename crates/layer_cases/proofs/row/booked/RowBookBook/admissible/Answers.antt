@@ -12,4 +12,4 @@ returns-then-leg-ne0 c =
 pub returns : goal.returns
 returns c =
     let b = c.args.self.now in
-    c.has-room.ensures ∙ sym (room_decides b.slots b.limit b.row c.args.leg (omega arith) (omega arith))
+    c.has_room.ensures ∙ sym (room_decides b.slots b.limit b.row c.args.leg (omega arith) (omega arith))

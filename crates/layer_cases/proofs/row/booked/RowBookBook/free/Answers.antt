@@ -5,8 +5,8 @@ use Rattle.layer_cases.specs.Row.{row_meaning}
 use Rattle.layer_cases.proofs.Rows.{at_most_all, set_less, standing_at, standing_inside}
 use Rattle.layer_cases.proofs.row.booked.RowBookBook.free.Goals as goal
 
-pub overflow-sub-self-2 : goal.overflow-sub-self-2
-overflow-sub-self-2 c =
+pub overflow_sub-self-2 : goal.overflow_sub-self-2
+overflow_sub-self-2 c =
     let b = c.args.self.now in
     let l = c.args.leg in
     let inside = standing_inside b.row l.segment l.entry (λ none. c.if-standing-eq0.false (c.standing.ensures ∙ none)) in
@@ -16,8 +16,8 @@ overflow-sub-self-2 c =
     let some = c.standing.ensures in
     omega arith
 
-pub invariant-of-self : goal.invariant-of-self
-invariant-of-self c =
+pub invariant_of-self : goal.invariant_of-self
+invariant_of-self c =
     let b = c.args.self.now in
     let l = c.args.leg in
     let inside = standing_inside b.row l.segment l.entry (λ none. c.if-standing-eq0.false (c.standing.ensures ∙ none)) in
@@ -28,4 +28,11 @@ invariant-of-self c =
     let counts = total_counts after l (omega arith) inside.1 in
     let all = b.counted in
     let few = b.few in
-    (length-set b.row l.entry _ ∙ b.sized, (b.takes, (b.short, (b.small, (omega arith, (omega arith, tt))))))
+    record {
+      sized = length-set b.row l.entry _ ∙ b.sized;
+      takes = b.takes;
+      short = b.short;
+      small = b.small;
+      counted = omega arith;
+      few = omega arith;
+    }

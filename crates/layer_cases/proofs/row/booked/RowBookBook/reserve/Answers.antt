@@ -12,8 +12,8 @@ bounds-self-entry c =
     let b = c.args.self.now in
     (admitted_inside b.slots b.limit b.row c.args.leg b.takes (sym c.if-not-admissible.ensures)).1
 
-pub overflow-add-self : goal.overflow-add-self
-overflow-add-self c =
+pub overflow_add-self : goal.overflow_add-self
+overflow_add-self c =
     let b = c.args.self.now in
     let l = c.args.leg in
     let inside = admitted_inside b.slots b.limit b.row l b.takes (sym c.if-not-admissible.ensures) in
@@ -26,15 +26,22 @@ bounds-self-entry-2 c =
     let b = c.args.self.now in
     (admitted_inside b.slots b.limit b.row c.args.leg b.takes (sym c.if-not-admissible.ensures)).1
 
-pub invariant-of-self : goal.invariant-of-self
-invariant-of-self c =
+pub invariant_of-self : goal.invariant_of-self
+invariant_of-self c =
     let b = c.args.self.now in
     let l = c.args.leg in
     let inside = admitted_inside b.slots b.limit b.row l b.takes (sym c.if-not-admissible.ensures) in
     let more = ap total (set_more b.slots b.limit b.row l inside.0 inside.1 b.sized) in
     let counts = total_counts (row_of b) l (omega arith) inside.1 in
     let all = b.counted in
-    (length-set b.row l.entry _ ∙ b.sized, (b.takes, (b.short, (b.small, (omega arith, (omega arith, tt))))))
+    record {
+      sized = length-set b.row l.entry _ ∙ b.sized;
+      takes = b.takes;
+      short = b.short;
+      small = b.small;
+      counted = omega arith;
+      few = omega arith;
+    }
 
 pub returns : goal.returns
 returns c =

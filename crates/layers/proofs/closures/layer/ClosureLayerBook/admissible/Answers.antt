@@ -11,7 +11,7 @@ returns-then-admissible g c =
     let layer = c.args.self.now in
     let m = g.B.Book.meaning layer.below in
     let l = c.args.leg in
-    ap₂ (λ a b. a && not b) c.if-admissible.ensures c.bars-leg.ensures
+    ap₂ (λ a b. a && not b) c.if-admissible.ensures c.bars_leg.ensures
     ∙ sym (admissible_closed (kept_closures layer) m l)
 
 pub returns-else-admissible : goal.returns-else-admissible

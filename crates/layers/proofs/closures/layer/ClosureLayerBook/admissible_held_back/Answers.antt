@@ -7,19 +7,19 @@ use Rattle.layers.specs.Closures.{kept_closures}
 use Rattle.layers.proofs.Closed.{open_told}
 use Rattle.layers.proofs.closures.layer.ClosureLayerBook.admissible_held_back.Goals as goal
 
-pub returns-then-admissible-held-back : goal.returns-then-admissible-held-back
-returns-then-admissible-held-back g c =
+pub returns-then-admissible_held_back : goal.returns-then-admissible_held_back
+returns-then-admissible_held_back g c =
     let layer = c.args.self.now in
     let m = g.B.Book.meaning layer.below in
     let l = c.args.leg in
     let open-here = open_told (closing (kept_closures layer) m.shown l.segment) l.entry _ _
-    c.barred-until.ensures c.is-none.ensures in
-    ap₂ (λ a b. a && b) c.if-admissible-held-back.ensures open-here ∙ sym (admissible_held_closed c.args.held (kept_closures layer) m l)
+    c.barred_until.ensures c.is_none.ensures in
+    ap₂ (λ a b. a && b) c.if-admissible_held_back.ensures open-here ∙ sym (admissible_held_closed c.args.held (kept_closures layer) m l)
 
-pub returns-else-admissible-held-back : goal.returns-else-admissible-held-back
-returns-else-admissible-held-back g c =
+pub returns-else-admissible_held_back : goal.returns-else-admissible_held_back
+returns-else-admissible_held_back g c =
     let layer = c.args.self.now in
     let m = g.B.Book.meaning layer.below in
     let l = c.args.leg in
-    c.if-admissible-held-back.false
-    ∙ sym (admissible_held_closed c.args.held (kept_closures layer) m l ∙ and_left (admissible (held_back c.args.held m) l) _ (sym c.if-admissible-held-back.ensures))
+    c.if-admissible_held_back.false
+    ∙ sym (admissible_held_closed c.args.held (kept_closures layer) m l ∙ and_left (admissible (held_back c.args.held m) l) _ (sym c.if-admissible_held_back.ensures))

@@ -6,4 +6,4 @@ use Rattle.leg_book.proofs.legs.booked.LegBookBook.admissible.Goals as goal
 
 pub returns : goal.returns
 returns c =
-    c.admissible-held-back.ensures ∙ ap (λ m. admissible m c.args.leg) (held_none (legs_of c.args.self.now))
+    c.admissible_held_back.ensures ∙ ap (λ m. admissible m c.args.leg) (held_none (legs_of c.args.self.now))

@@ -11,11 +11,11 @@ returns-then-not-self c =
     sym (barred_not_admitted c.args.held (legs_of c.args.self.now) c.args.leg
     (ap not c.if-not-self.true))
 
-pub returns-in-default : goal.returns-in-default
-returns-in-default c =
+pub returns-in_default : goal.returns-in_default
+returns-in_default c =
     let m = legs_of c.args.self.now in
     sym (unknown_not_admitted c.args.held m c.args.leg
-    (segment_none m c.args.leg.segment c.in-default.ensures))
+    (segment_none m c.args.leg.segment c.in_default.ensures))
 
 pub returns : goal.returns
 returns c =
@@ -33,11 +33,11 @@ returns c =
     let is : h ≡ s.horizon = omega (arith, c.sizes.ensures.horizon) in
     let table = c.table-table.result in
     let long = c.table-table.ensures.long in
-    c.is-some.ensures
+    c.is_some.ensures
     ∙ admitted_told c.args.held m i (take h table) known (λ e. ap not kept)
     (row_length s short table long h is)
     (row_stands s short table long h is b.kept b.records.now i kept known
     c.table-table.ensures.counts)
     ((legs_sound b).plan_fits.roads_fit i known).takes_a_slot _ _ slots
-    (omega (arith, count, c.saturating-sub-limit.ensures))
-    c.args.leg.entry c.first-entry.result c.first-entry.ensures
+    (omega (arith, count, c.saturating_sub-limit.ensures))
+    c.args.leg.entry c.first_entry.result c.first_entry.ensures

@@ -20,19 +20,19 @@ out b k = record {
   entry = (get_or b.records.now k no_record).entry;
 }
 
-pub returns-in-default : goal.returns-in-default
-returns-in-default c =
+pub returns-in_default : goal.returns-in_default
+returns-in_default c =
     let b = c.args.self.now in
     let l = c.args.leg in
     let none = standing_none (shown_of b.plan) b.kept (count_at (part_used b.records.now))
-    l.segment l.entry c.in-default.ensures in
+    l.segment l.entry c.in_default.ensures in
     record {
       does = record { answer = frees_refused (legs_of b) l none; change = refl };
       refused = λ _. refl;
     }
 
-pub offset-bounds-self-place : goal.offset-bounds-self-place
-offset-bounds-self-place c =
+pub offset_bounds-self-place : goal.offset_bounds-self-place
+offset_bounds-self-place c =
     let b = c.args.self.now in
     record { fits = omega (arith, c.in-Some.ensures.0, length-take most_legs b.records.now) }
 
@@ -41,8 +41,8 @@ bounds-self-place c =
     let b = c.args.self.now in
     omega (arith, c.in-Some.ensures.0, length-take most_legs b.records.now)
 
-pub overflow-sub-self : goal.overflow-sub-self
-overflow-sub-self c =
+pub overflow_sub-self : goal.overflow_sub-self
+overflow_sub-self c =
     let b = c.args.self.now in
     let s = shown_of b.plan in
     let l = c.args.leg in
@@ -54,8 +54,8 @@ overflow-sub-self c =
     let at = found_kept s b.kept memory k within l (out b k) refl is kept (b.legal kept) in
     omega (arith, counts_less s b.kept memory k within l (out b k) refl is at, b.counted)
 
-pub invariant-of-self : goal.invariant-of-self
-invariant-of-self c =
+pub invariant_of-self : goal.invariant_of-self
+invariant_of-self c =
     let b = c.args.self.now in
     let s = shown_of b.plan in
     let l = c.args.leg in
@@ -66,16 +66,14 @@ invariant-of-self c =
     let kept = c.if-not-self.false in
     let at = found_kept s b.kept memory k within l (out b k) refl is kept (b.legal kept) in
     let less = counts_less s b.kept memory k within l (out b k) refl is at in
-    let few = b.few in (
-      λ kept. omega (arith, b.room kept, length-set memory k (out b k)),
-      (
-        λ kept. stays_legal s b.kept memory k within (out b k) (λ used. absurd (false≢true used)) (b.legal kept),
-        (
-          λ kept. stays_small_less s b.kept memory k within l (out b k) refl is (b.small kept),
-          (omega (arith, less, b.counted), (omega (arith, few), tt)),
-        ),
-      ),
-    )
+    let few = b.few in
+    record {
+      room = λ kept. omega (arith, b.room kept, length-set memory k (out b k));
+      legal = λ kept. stays_legal s b.kept memory k within (out b k) (λ used. absurd (false≢true used)) (b.legal kept);
+      small = λ kept. stays_small_less s b.kept memory k within l (out b k) refl is (b.small kept);
+      counted = omega (arith, less, b.counted);
+      few = omega (arith, few);
+    }
 
 pub returns : goal.returns
 returns c =

@@ -16,10 +16,10 @@ returns-then-not-self c =
     (shut_stands (shown_of b.plan) b.kept (count_at (part_used b.records.now)) c.args.segment
     c.if-not-self.true))
 
-pub returns-in-default : goal.returns-in-default
-returns-in-default c =
+pub returns-in_default : goal.returns-in_default
+returns-in_default c =
     let m = legs_of c.args.self.now in
-    sym (load_unknown m c.args.segment c.args.slot (segment_none m c.args.segment c.in-default.ensures))
+    sym (load_unknown m c.args.segment c.args.slot (segment_none m c.args.segment c.in_default.ensures))
 
 pub returns : goal.returns
 returns c =
@@ -35,7 +35,7 @@ returns c =
     let is : h ≡ s.horizon = omega (arith, c.sizes.ensures.horizon) in
     let table = c.table-table.result in
     let long = c.table-table.ensures.long in
-    c.load-of.ensures
+    c.load_of.ensures
     ∙ load_told m i _ (take h table) slots (row_length s short table long h is)
     (row_stands s short table long h is b.kept b.records.now i kept numbers.0
     c.table-table.ensures.counts)

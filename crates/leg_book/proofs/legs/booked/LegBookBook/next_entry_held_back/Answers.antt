@@ -10,10 +10,10 @@ pub returns-then-not-self : goal.returns-then-not-self
 returns-then-not-self c k later =
     barred_not_admitted c.args.held (legs_of c.args.self.now) _ (ap not c.if-not-self.true)
 
-pub returns-in-default : goal.returns-in-default
-returns-in-default c k later =
+pub returns-in_default : goal.returns-in_default
+returns-in_default c k later =
     let m = legs_of c.args.self.now in
-    unknown_not_admitted c.args.held m _ (segment_none m c.args.segment c.in-default.ensures)
+    unknown_not_admitted c.args.held m _ (segment_none m c.args.segment c.in_default.ensures)
 
 pub returns : goal.returns
 returns c =
@@ -34,6 +34,6 @@ returns c =
     next_told c.args.held m i (take h table) known (λ e. ap not kept) (row_length s short table long h is)
     (row_stands s short table long h is b.kept b.records.now i kept known c.table-table.ensures.counts)
     ((legs_sound b).plan_fits.roads_fit i known).takes_a_slot _ _ slots
-    (omega (arith, count, c.saturating-sub-limit.ensures))
-    c.args.from c.saturating-sub-last.result c.first-entry.result
-    (omega (arith, slots, c.saturating-sub-last.ensures, is)) c.first-entry.ensures
+    (omega (arith, count, c.saturating_sub-limit.ensures))
+    c.args.from c.saturating_sub-last.result c.first_entry.result
+    (omega (arith, slots, c.saturating_sub-last.ensures, is)) c.first_entry.ensures

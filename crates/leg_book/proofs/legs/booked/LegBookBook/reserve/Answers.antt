@@ -11,25 +11,25 @@ use Rattle.leg_book.proofs.Collecting.{total_used}
 use Rattle.leg_book.proofs.Stores.{counts_more, leg_legal, one_more, part_length, stays_legal, stays_small_more}
 use Rattle.leg_book.proofs.legs.booked.LegBookBook.reserve.Goals as goal
 
-pub unused-place-requires : goal.unused-place-requires
-unused-place-requires c =
+pub unused_place-requires : goal.unused_place-requires
+unused_place-requires c =
     let b = c.args.self.now in
     let s = shown_of b.plan in
     (admitted_kept s b.kept (count_at (part_used b.records.now)) c.args.leg (shown_fits b.plan)
     (sym c.if-not-admissible.ensures)).keeps
 
-pub returns-in-default : goal.returns-in-default
-returns-in-default c =
+pub returns-in_default : goal.returns-in_default
+returns-in_default c =
     let b = c.args.self.now in
     let s = shown_of b.plan in
     let kept = (admitted_kept s b.kept (count_at (part_used b.records.now)) c.args.leg (shown_fits b.plan)
     (sym c.if-not-admissible.ensures)).keeps in
-    let full = c.in-default.ensures in
+    let full = c.in_default.ensures in
     let all = total_used s b.kept (part_used b.records.now) kept (b.legal kept) in
     absurd (omega (arith, full, all, b.counted, part_length b.records.now (b.room kept)))
 
-pub offset-bounds-self-place : goal.offset-bounds-self-place
-offset-bounds-self-place c =
+pub offset_bounds-self-place : goal.offset_bounds-self-place
+offset_bounds-self-place c =
     let b = c.args.self.now in
     record { fits = omega (arith, c.in-Some.ensures.0, length-take most_legs b.records.now) }
 
@@ -38,8 +38,8 @@ bounds-self-place c =
     let b = c.args.self.now in
     omega (arith, c.in-Some.ensures.0, length-take most_legs b.records.now)
 
-pub invariant-of-self : goal.invariant-of-self
-invariant-of-self c =
+pub invariant_of-self : goal.invariant_of-self
+invariant_of-self c =
     let b = c.args.self.now in
     let s = shown_of b.plan in
     let l = c.args.leg in
@@ -55,17 +55,15 @@ invariant-of-self c =
       few_stand (legs_of b) l (shown_fits b.plan) admitted,
       bottom_at s b.kept (count_at (part_used memory)) l.segment l.entry at,
     ) in
-    let more = counts_more s b.kept memory k within l unused at in (
-      λ kept. omega (arith, b.room kept, length-set memory k (record_of l)),
-      (
-        λ kept. stays_legal s b.kept memory k within (record_of l)
-            (λ _. leg_legal s b.kept memory k within l unused at) (b.legal kept),
-        (
-          λ kept. stays_small_more s b.kept memory k within l unused few (b.small kept),
-          (omega (arith, more, b.counted), (omega arith, tt)),
-        ),
-      ),
-    )
+    let more = counts_more s b.kept memory k within l unused at in
+    record {
+      room = λ kept. omega (arith, b.room kept, length-set memory k (record_of l));
+      legal = λ kept. stays_legal s b.kept memory k within (record_of l)
+            (λ _. leg_legal s b.kept memory k within l unused at) (b.legal kept);
+      small = λ kept. stays_small_more s b.kept memory k within l unused few (b.small kept);
+      counted = omega (arith, more, b.counted);
+      few = omega arith;
+    }
 
 pub returns : goal.returns
 returns c =
