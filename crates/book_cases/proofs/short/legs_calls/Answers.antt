@@ -21,6 +21,6 @@ returns c short =
     ap is_ok c.free.ensures.does.answer ∙ ap (λ m. is_ok (frees m l)) (ap legs_of same ∙ none)
     ∙ none_freed s true l in
     let still = c.free.ensures.refused unfreed ∙ same in
-    let kept = ap (λ b. b.records.now) still ∙ c.new-book.ensures.too-little short in
+    let kept = ap (λ b. b.records.now) still ∙ c.new-book.ensures.too_little short in
     let named = sym c.new-book.ensures.lent ∙ ap (λ b. b.records.ghost_name) (sym still) in
     search rules

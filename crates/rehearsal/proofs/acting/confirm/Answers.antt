@@ -8,9 +8,9 @@ use Rattle.rehearsal.specs.TokenLists.{out, same}
 use Rattle.rehearsal.proofs.TokenLists.{was_out}
 use Rattle.rehearsal.proofs.acting.confirm.Goals as goal
 
-pub returns-in-default : goal.returns-in-default
-returns-in-default g c =
-    let none = c.in-default.ensures.taken in
+pub returns-in_default : goal.returns-in_default
+returns-in_default g c =
+    let none = c.in_default.ensures.taken in
     record {
       made =
           not_made _ _ _ _ _ _ _ _ c.requires.matched Confirm c.args.number refl
@@ -30,7 +30,7 @@ pub returns : goal.returns
 returns g c =
     let taken = c.in-Some.ensures.taken in
     let step = step_by Confirm taken.is c.in-Ok.ensures.step in
-    let put = c.put-token.ensures.put in
+    let put = c.put_token.ensures.put in
     let same_number = c.in-Ok.ensures.token ∙ taken.is in
     record {
       made =

@@ -8,9 +8,9 @@ use Rattle.rehearsal.specs.TokenLists.{out}
 use Rattle.rehearsal.proofs.TokenLists.{was_out}
 use Rattle.rehearsal.proofs.acting.park_hold.Goals as goal
 
-pub returns-in-default : goal.returns-in-default
-returns-in-default g c =
-    let none = c.in-default.ensures.taken in
+pub returns-in_default : goal.returns-in_default
+returns-in_default g c =
+    let none = c.in_default.ensures.taken in
     record {
       made =
           not_made _ _ _ _ _ _ _ _ c.requires.matched ParkHold c.args.number refl

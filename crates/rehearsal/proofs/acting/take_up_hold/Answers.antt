@@ -6,7 +6,7 @@ use Rattle.rehearsal.proofs.acting.take_up_hold.Goals as goal
 
 pub returns-in-Ok : goal.returns-in-Ok
 returns-in-Ok g c =
-    let put = c.put-token.ensures.put in
+    let put = c.put_token.ensures.put in
     record {
       made =
           made_done _ _ _ _ _ _ _ _ c.requires.matched TakeUpHold c.args.number c.in-Ok.ensures.step

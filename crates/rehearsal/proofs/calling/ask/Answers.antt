@@ -13,7 +13,7 @@ unreachable-requires g c =
 pub returns-in-Some : goal.returns-in-Some
 returns-in-Some g c =
     let granted = c.in-Ok.ensures.step in
-    let put = c.put-token.ensures.put in
+    let put = c.put_token.ensures.put in
     record {
       made =
           made_with (labels_lent c.args.labels c.args.scratch.now c.min-room.result c.min-room.ensures)

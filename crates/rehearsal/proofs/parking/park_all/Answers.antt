@@ -31,14 +31,14 @@ loop-passage-preserved g c = λ m f H parking.
     let taken =
     last_taken (λ (p : Passage). p.number) _ c.in-Some-pop.passage _ c.in-Some-pop.ensures.items in
     passage_parked _ _ _ _ _ _ _ _ _ _ c.in-Some-pop.passage.number (c.loop-passage.invariant m f H parking)
-    c.in-Ok-park-passage.ensures.step (λ k. refl) taken.left
+    c.in-Ok-park_passage.ensures.step (λ k. refl) taken.left
 
-pub unreachable-requires-in-Err-park-passage : goal.unreachable-requires-in-Err-park-passage
-unreachable-requires-in-Err-park-passage g c =
+pub unreachable-requires-in-Err-park_passage : goal.unreachable-requires-in-Err-park_passage
+unreachable-requires-in-Err-park_passage g c =
     let taken =
     last_taken (λ (p : Passage). p.number) _ c.in-Some-pop.passage _ c.in-Some-pop.ensures.items in
     let parking = c.loop-passage.invariant _ _ _ c.loop-hold.invariant in
-    both_ways _ c.in-Err-park-passage.ensures.step.answers.0
+    both_ways _ c.in-Err-park_passage.ensures.step.answers.0
     (passage_stands _ _ _ c.in-Some-pop.passage.number _ parking.matched parking.numbered
     (was_out _ _ _ _ _ taken))
 
@@ -47,5 +47,5 @@ returns g c =
     let holds = c.loop-hold.holds.ok.0 in
     let passages = c.loop-passage.passages.ok.0 in
     all_parked _ _ _ _ _ _ (c.loop-passage.invariant _ _ _ c.loop-hold.invariant)
-    (none_out (λ (h : Hold). h.number) _ (omega (arith, holds, c.in-default.ensures.cases.0)))
-    (none_out (λ (p : Passage). p.number) _ (omega (arith, passages, c.in-default-pop.ensures.cases.0)))
+    (none_out (λ (h : Hold). h.number) _ (omega (arith, holds, c.in_default.ensures.cases.0)))
+    (none_out (λ (p : Passage). p.number) _ (omega (arith, passages, c.in_default-pop.ensures.cases.0)))

@@ -22,7 +22,7 @@ pub loop-call-preserved : goal.loop-call-preserved
 loop-call-preserved g c =
     let inv = c.loop-call.invariant in
     let made = c.make-exchange.ensures.made in
-    let pushed = c.push-reserved.ensures in
+    let pushed = c.push_reserved.ensures in
     let before = inv.3 in
     let grown = c.make-exchange.ensures.grown in (
       subst (Keeping _ _ _) (sym pushed.items) (keeping_next _ _ _ _ _ _ _ _ _ _ made inv.0),

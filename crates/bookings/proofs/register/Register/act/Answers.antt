@@ -13,14 +13,14 @@ returns-then-place-len c =
     let past : length (listed g) ≤ place c.args.number (listed g) = omega (arith, c.place-place.ensures) in
     (stands_past c.args.number (needed c.args.act) (listed g) past, search rules)
 
-pub returns-in-default : goal.returns-in-default
-returns-in-default c =
+pub returns-in_default : goal.returns-in_default
+returns-in_default c =
     let g = c.args.self.now in
     let counted = g.bookings.ok.0 in
     let below : c.place-place.result < length (listed g) = omega arith in (
       stands_here c.args.number (listed g) _ _ c.place-place.ensures below c.index-booking.ensures
           (needed c.args.act)
-          ∙ c.in-default.ensures,
+          ∙ c.in_default.ensures,
       search rules,
     )
 
@@ -31,7 +31,7 @@ returns-in-To c =
     let below : c.place-place.result < length (listed g) = omega arith in
     let follows = c.in-Some.ensures in
     done_moved g _ c.args.act c.args.number _ _ c.place-place.ensures below c.index-booking.ensures
-    follows.0 refl c.in-To.state _ c.index-mut.ensures.value
+    follows.0 refl c.in-To.state _ c.index_mut.ensures.value
     (subst (Leads c.args.act) c.in-To.is follows.1) refl refl refl
 
 pub returns-in-Withdrawn : goal.returns-in-Withdrawn

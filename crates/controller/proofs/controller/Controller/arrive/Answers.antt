@@ -9,7 +9,7 @@ pub returns-in-Some : goal.returns-in-Some
 returns-in-Some g c = record {
   step =
       ended_step _ _ _ _ Arrive c.args.passage.number c.in-Some.route c.in-Some.ensures refl
-      (λ rest stands. c.free-all.ensures rest (stands ∙ ap (more rest) (sym c.legs.ensures)));
+      (λ rest stands. c.free_all.ensures rest (stands ∙ ap (more rest) (sym c.legs.ensures)));
   refused = λ refused. absurd (true≢false refused);
   token = tt;
 }

@@ -3,7 +3,7 @@ use Rattle.std.proofs.lemmas.List.{take_all}
 use Rattle.controller.specs.Events.{Collected, events_of}
 use Rattle.controller.proofs.Listing.{collected_both, collected_neither, collected_none}
 use Rattle.controller.proofs.controller.Controller.collect_events.Goals as goal
-use Rattle.controller.proofs.controller.Controller.collect_events.Goals.{in-Some, in-default}
+use Rattle.controller.proofs.controller.Controller.collect_events.Goals.{in-Some, in_default}
 
 pub loop-booking-init : goal.loop-booking-init
 loop-booking-init g c =
@@ -23,11 +23,11 @@ loop-booking-preserved g c =
           (collected_both m bs c.args.shift.now l.shift l.booking-index l.count c.booking-item.result
           c.loop-booking-test.true c.booking-item.is l.invariant w.in-Some.timing
           (sym w.in-Some.is ∙ c.timing.ensures))
-      | in-default w ↦
+      | in_default w ↦
           rw (w.shift-is, w.count-is)
           (collected_neither m bs c.args.shift.now l.shift l.booking-index l.count
           c.booking-item.result c.loop-booking-test.true c.booking-item.is l.invariant
-          (sym w.in-default.is ∙ c.timing.ensures))
+          (sym w.in_default.is ∙ c.timing.ensures))
     ]
 
 pub returns : goal.returns

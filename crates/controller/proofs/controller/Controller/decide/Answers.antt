@@ -17,54 +17,54 @@ use Rattle.bookings.proofs.Granting.{
 }
 use Rattle.controller.proofs.controller.Controller.decide.Goals as goal
 
-pub returns-in-err-check-request : goal.returns-in-err-check-request
-returns-in-err-check-request g c =
+pub returns-in_err-check_request : goal.returns-in_err-check_request
+returns-in_err-check_request g c =
     let m = g.B.Book.meaning c.args.self.now.book in
     let register = c.args.self.now.register in
     let n = length (listed register) in
     let room = length c.args.scratch.now in
-    let refused = sym c.check-request.ensures.answer ∙ c.in-err-check-request.was in
-    let error = err_from_is_err_and c.from-residual.result c.from-residual.ensures.1 in
+    let refused = sym c.check_request.ensures.answer ∙ c.in_err-check_request.was in
+    let error = err_from_is_err_and c.from_residual.result c.from_residual.ensures.1 in
     record {
       decision =
           rw (error.1, error.2) (inl (refused_by_checks m n register.last c.args.request room _ refused));
       untouched = search rules;
     }
 
-pub returns-in-err-check-vacancy : goal.returns-in-err-check-vacancy
-returns-in-err-check-vacancy g c =
+pub returns-in_err-check_vacancy : goal.returns-in_err-check_vacancy
+returns-in_err-check_vacancy g c =
     let m = g.B.Book.meaning c.args.self.now.book in
     let register = c.args.self.now.register in
     let n = length (listed register) in
     let room = length c.args.scratch.now in
     let passed : checks m c.args.request room ≡ Ok tt =
-    sym c.check-request.ensures.answer ∙ c.in-ok-check-request.was in
-    let full = sym c.check-vacancy.ensures ∙ c.in-err-check-vacancy.was in
-    let result = c.from-residual-in-err-check-vacancy.result in
-    let error = err_from_is_err_and result c.from-residual-in-err-check-vacancy.ensures.1 in
+    sym c.check_request.ensures.answer ∙ c.in_ok-check_request.was in
+    let full = sym c.check_vacancy.ensures ∙ c.in_err-check_vacancy.was in
+    let result = c.from_residual-in_err-check_vacancy.result in
+    let error = err_from_is_err_and result c.from_residual-in_err-check_vacancy.ensures.1 in
     record {
       decision =
           rw (error.1, error.2) (inl (past_checks m n register.last c.args.request room passed ∙ full));
       untouched = search rules;
     }
 
-pub returns-in-err-route : goal.returns-in-err-route
-returns-in-err-route g c =
+pub returns-in_err-route : goal.returns-in_err-route
+returns-in_err-route g c =
     let m = g.B.Book.meaning c.args.self.now.book in
     let register = c.args.self.now.register in
     let n = length (listed register) in
     let room = length c.args.scratch.now in
     let passed : checks m c.args.request room ≡ Ok tt =
-    sym c.check-request.ensures.answer ∙ c.in-ok-check-request.was in
+    sym c.check_request.ensures.answer ∙ c.in_ok-check_request.was in
     let vacant : vacancy n register.last ≡ Ok tt =
-    sym c.check-vacancy.ensures ∙ c.in-ok-check-vacancy.was in
-    let result = c.from-residual-in-err-route.result in
-    let error = err_from_is_err_and result c.from-residual-in-err-route.ensures.1 in
+    sym c.check_vacancy.ensures ∙ c.in_ok-check_vacancy.was in
+    let result = c.from_residual-in_err-route.result in
+    let error = err_from_is_err_and result c.from_residual-in_err-route.ensures.1 in
     record {
       decision =
           rw (error.1, error.2)
           (refused_by_search m n register.last c.args.request room passed vacant _
-          c.in-err-route.ensures.finds);
+          c.in_err-route.ensures.finds);
       untouched = λ refused.
           absurd
           (true≢false
@@ -78,15 +78,15 @@ returns-then-total-legs g c =
     let n = length (listed register) in
     let room = length c.args.scratch.now in
     let passed : checks m c.args.request room ≡ Ok tt =
-    sym c.check-request.ensures.answer ∙ c.in-ok-check-request.was in
+    sym c.check_request.ensures.answer ∙ c.in_ok-check_request.was in
     let vacant : vacancy n register.last ≡ Ok tt =
-    sym c.check-vacancy.ensures ∙ c.in-ok-check-vacancy.was in
-    let legs = legs_of c.in-ok-route.route in
+    sym c.check_vacancy.ensures ∙ c.in_ok-check_vacancy.was in
+    let legs = legs_of c.in_ok-route.route in
     let above : most_legs < total m + length legs = omega (arith, c.total.ensures, ap length c.legs.ensures) in
     record {
       decision =
           too_many_legs m n register.last c.args.request room passed vacant legs
-          c.in-ok-route.ensures.finds.1 above;
+          c.in_ok-route.ensures.finds.1 above;
       untouched = λ refused.
           absurd
           (true≢false
@@ -100,15 +100,15 @@ returns g c =
     let n = length (listed register) in
     let room = length c.args.scratch.now in
     let passed : checks m c.args.request room ≡ Ok tt =
-    sym c.check-request.ensures.answer ∙ c.in-ok-check-request.was in
+    sym c.check_request.ensures.answer ∙ c.in_ok-check_request.was in
     let vacant : vacancy n register.last ≡ Ok tt =
-    sym c.check-vacancy.ensures ∙ c.in-ok-check-vacancy.was in
-    let legs = legs_of c.in-ok-route.route in
+    sym c.check_vacancy.ensures ∙ c.in_ok-check_vacancy.was in
+    let legs = legs_of c.in_ok-route.route in
     let fits : total m + length legs ≤ most_legs = omega (arith, c.total.ensures, ap length c.legs.ensures) in
     record {
       decision =
           route_granted m n register.last c.args.request room passed vacant legs
-          c.in-ok-route.ensures.finds.1 fits;
+          c.in_ok-route.ensures.finds.1 fits;
       untouched = λ refused.
           absurd
           (true≢false

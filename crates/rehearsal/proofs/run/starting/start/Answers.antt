@@ -8,12 +8,12 @@ use Rattle.rehearsal.proofs.run.starting.start.Goals as goal
 pub returns-in-Ok-new : goal.returns-in-Ok-new
 returns-in-Ok-new g c =
     let tokens = c.in-Ok.ensures in
-    let history = c.in-Ok-with-capacity.ensures.made in
+    let history = c.in-Ok-with_capacity.ensures in
     let begins = c.in-Ok-new.ensures.1 in
     let holds = c.in-Ok.tokens.holds.ok.0 in
     let passages = c.in-Ok.tokens.passages.ok.0 in (
       c.in-Ok-new.ensures.0,
-      history.0,
+      history.items,
       keeping_none _ _ _ begins.none begins.last begins.withdrawn begins.arrived
           (none_out (λ (h : Hold). h.number) (vec_items c.in-Ok.tokens.holds)
           (omega (arith, holds, tokens.holds)))
@@ -23,6 +23,6 @@ returns-in-Ok-new g c =
       record {
         holds = omega (arith, tokens.holds, tokens.hold_room);
         passages = omega (arith, tokens.passages, tokens.passage_room);
-        exchanges = omega (arith, history.1.0, history.1.1);
+        exchanges = omega (arith, history.len, history.capacity);
       },
     )

@@ -6,7 +6,7 @@ use Rattle.rehearsal.proofs.tokens.keeping.take_token.Goals as goal
 pub returns-in-Some : goal.returns-in-Some
 returns-in-Some g c =
     let booked = g.T.Token.booked in
-    let whole = c.as-slice.ensures.value in
+    let whole = c.as_slice.ensures.value in
     let found = c.in-Some.ensures in
     let took = c.remove.ensures in
     let there = subst (λ ys. HoldsAt (λ x. booked x ≡ c.args.number) ys c.in-Some.place) whole found.1 in
