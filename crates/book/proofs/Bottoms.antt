@@ -4,7 +4,7 @@ use Rattle.std.proofs.lemmas.List.{get_or_past}
 use Rattle.std.proofs.lemmas.Bool.{and_from, and_left, and_parts, and_right, cases_Bool, cases_eq, cases_lt, cond-false, cond-true, le-ltb, lt-ltb, ltb-true, ne_eqb}
 use Rattle.plan.specs.Limits.{most_legs}
 use Rattle.book.specs.Bottom.{bottom, keeps_at, no_legs}
-use Rattle.book.specs.Meaning.{Shown, ShownFits, Sound, horizon, one, plus, segments, total}
+use Rattle.book.specs.Meaning.{Shown, ShownFits, Sound, one, plus, total}
 use Rattle.book.specs.ShownPlan.{shown_of}
 use Rattle.book.specs.declared.legs.Leg.{Leg}
 use Rattle.book.specs.declared.shown.ShownPlan.{ShownPlan}

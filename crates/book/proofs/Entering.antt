@@ -1,9 +1,9 @@
 -- A search for the next admissible entry, entry by entry.
-use Rattle.std.proofs.Common.{◌≡◌, ℕ, ◌+◌, ◌<◌, ◌≤◌, true, false, sym, ◌∙◌, subst, inl, inr, ⊎_elim, arith}
+use Rattle.std.proofs.Common.{◌≡◌, ℕ, ◌+◌, ◌≤◌, true, false, sym, ◌∙◌, subst, inl, inr, ⊎_elim, arith}
 use Rattle.std.proofs.lemmas.Bool.{cases_Bool, cases_eq, cases_lt, true≢false}
 use Rattle.book.specs.Entries.{IsNext, NoneBetween}
 use Rattle.book.specs.Loads.{admissible}
-use Rattle.book.specs.Meaning.{Meaning, Sound, horizon, road, segments}
+use Rattle.book.specs.Meaning.{Meaning, Sound, horizon}
 use Rattle.book.proofs.Loading.{admitted_known, admitted_within}
 
 module _ (m : Meaning) (i from : ℕ) where

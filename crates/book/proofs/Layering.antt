@@ -1,11 +1,11 @@
 -- What the layers keep of the book below: it stays sound, and its legs count the same.
-use Rattle.std.proofs.Common.{◌≡◌, ℕ, ◌+◌, ◌-◌, ◌<◌, ◌≤◌, Bool, true, false, cond, not, ◌&&◌, ◌||◌, ltb, leb, List, map, length, get_or, sym, refl, ap, ◌∙◌, subst, arith}
+use Rattle.std.proofs.Common.{◌≡◌, ℕ, ◌+◌, ◌<◌, ◌≤◌, Bool, false, not, ◌&&◌, ◌||◌, ltb, leb, List, sym, refl, ap, subst, arith}
 use Rattle.std.proofs.lemmas.List.{get_or-map, length-map}
 use Rattle.plan.specs.declared.parts.Closure.{Closure}
 use Rattle.std.proofs.lemmas.Bool.{and_left, le-ltb, lt-ltb}
 use Rattle.book.specs.Layered.{closed, closed_by, closing, held_back, lower}
 use Rattle.book.specs.Loads.{admissible, has_room}
-use Rattle.book.specs.Meaning.{Meaning, RoadFits, ShownFits, Sound, horizon, no_road, road, segments, total}
+use Rattle.book.specs.Meaning.{Meaning, RoadFits, Sound, horizon, no_road, road, segments, total}
 use Rattle.book.specs.Below.{sum_below}
 use Rattle.book.specs.declared.legs.Leg.{Leg}
 

@@ -1,5 +1,5 @@
 -- What one leg more does to loads and totals.
-use Rattle.std.proofs.Common.{◌≡◌, ℕ, ◌+◌, ◌-◌, ◌<◌, ◌≤◌, Bool, true, cond, not, ◌&&◌, eqb, ltb, leb, ◌≢◌, sym, ap, ◌∙◌, subst, ⊎_elim, arith}
+use Rattle.std.proofs.Common.{◌≡◌, ℕ, ◌+◌, ◌-◌, ◌<◌, ◌≤◌, Bool, true, cond, not, ◌&&◌, eqb, ltb, leb, ◌≢◌, ap, ◌∙◌, subst, ⊎_elim, arith}
 use mathlib.Core.Path.{fun_ext}
 use Rattle.std.proofs.lemmas.Bool.{and_parts, cases_Bool, cases_eq, leb-true, lt-ltb, ltb-true, ne_eqb}
 use Rattle.book.specs.Below.{all_below, sum_below}
@@ -7,7 +7,7 @@ use Rattle.book.specs.Laws.{OtherLoadsStay, OthersStayAdmissible, TotalCounts, W
 use Rattle.book.specs.Loads.{Within, admissible, has_room, holds, load, load_below}
 use Rattle.book.specs.Meaning.{Meaning, horizon, one, plus, road, segments, total}
 use Rattle.book.specs.declared.legs.Leg.{Leg}
-use Rattle.book.proofs.Sums.{all_at, sum_add, sum_le, sum_point, sum_same, sum_zero}
+use Rattle.book.proofs.Sums.{all_at, sum_add, sum_le, sum_point, sum_same}
 
 -- a leg stands at no other segment
 one_elsewhere : (l : Leg) (i e : ℕ) → l.segment ≢ i → one l i e ≡ 0

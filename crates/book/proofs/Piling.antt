@@ -1,5 +1,5 @@
 -- Layers over layers: a hold-back over a hold-back, and a hold-back over closures.
-use Rattle.std.proofs.Common.{◌≡◌, ℕ, ◌+◌, ◌-◌, ◌<◌, ◌≤◌, min, Bool, true, false, not, ◌&&◌, ◌||◌, ltb, List, map, length, get_or, sym, refl, ap, ◌∙◌, ⊎_elim, arith}
+use Rattle.std.proofs.Common.{◌≡◌, ℕ, ◌+◌, ◌-◌, ◌<◌, min, Bool, not, ◌&&◌, ◌||◌, List, length, get_or, sym, ap, ◌∙◌, ⊎_elim, arith}
 use mathlib.Core.Path.{fun_ext}
 use Rattle.std.proofs.lemmas.List.{ext_get_or}
 use Rattle.std.proofs.lemmas.Bool.{cases_lt}
@@ -9,7 +9,7 @@ use Rattle.book.specs.Layered.{closed, closed_by, closing, held_back, lower}
 use Rattle.book.specs.Loads.{admissible, load, load_below}
 use Rattle.book.specs.Meaning.{Meaning, Road, Sound, horizon, no_road, road, segments}
 use Rattle.book.specs.declared.legs.Leg.{Leg}
-use Rattle.book.proofs.Layering.{admissible_closed, closing_known, closing_unknown, held_sound, road_held, segments_held}
+use Rattle.book.proofs.Layering.{admissible_closed, closing_known, closing_unknown, road_held, segments_held}
 use Rattle.book.proofs.Windows.{load_unknown}
 
 -- two meanings that differ in their segments alone are one where these are the same, number by number

@@ -3,7 +3,7 @@ use Rattle.std.proofs.Common.{◌≡◌, ℕ, ◌+◌, Bool, true, false, cond, 
 use Rattle.std.proofs.lemmas.Bool.{cond-false, cond-true, eq-eqb, ne_eqb}
 use Rattle.plan.specs.Limits.{most_legs}
 use Rattle.plan.specs.declared.refusals.Refusal.TheVariants as refusal
-use Rattle.book.specs.Calls.{Answer, Freed, Reserved}
+use Rattle.book.specs.Calls.{Answer, Reserved}
 use Rattle.book.specs.Laws.{FreedGivesBack}
 use Rattle.book.specs.Loads.{admissible}
 use Rattle.book.specs.Meaning.{Meaning, one, plus, total}

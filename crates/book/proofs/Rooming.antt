@@ -1,8 +1,8 @@
 -- Room in the slots of a leg, slot by slot, and under a hold-back.
-use Rattle.std.proofs.Common.{◌≡◌, ℕ, ◌+◌, ◌-◌, ◌<◌, ◌≤◌, Bool, true, false, not, ◌&&◌, ltb, leb, length, sym, refl, ap, ◌∙◌, ap₂, inl, inr, ⊎_elim, add-one, arith}
+use Rattle.std.proofs.Common.{◌≡◌, ℕ, ◌+◌, ◌-◌, ◌<◌, ◌≤◌, Bool, true, false, not, ◌&&◌, ltb, leb, sym, refl, ap, ◌∙◌, ap₂, inl, inr, ⊎_elim, add-one, arith}
 use Rattle.std.proofs.lemmas.Bool.{and_from, and_left, cases_Bool, cases_lt, le-ltb, lt-ltb, ltb-true}
 use Rattle.book.specs.Below.{all_below}
-use Rattle.book.specs.Layered.{held_back, lower}
+use Rattle.book.specs.Layered.{held_back}
 use Rattle.book.specs.Loads.{admissible, has_room, load, load_below}
 use Rattle.book.specs.Meaning.{Meaning, horizon, road, segments}
 use Rattle.book.specs.Rooms.{room_below}

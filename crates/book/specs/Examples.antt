@@ -1,8 +1,7 @@
 -- Worked entries: which legs of a segment with critical count 1 are admissible below a horizon of 20.
-use Rattle.std.specs.Prelude.{◌≡◌, ℕ, zero, suc, Bool, false, cond, ◌&&◌, List, [], ◌∷◌, ◌++◌, ◌==◌}
+use Rattle.std.specs.Prelude.{◌≡◌, ℕ, zero, suc, Bool, false, cond, List, [], ◌∷◌, ◌++◌, ◌==◌}
 use Rattle.book.specs.Loads.{admissible}
 use Rattle.book.specs.Meaning.{Meaning}
-use Rattle.book.specs.declared.legs.Leg.{Leg}
 
 -- one segment with so many travel slots and critical count 1, nothing barred, and legs standing by their entry
 abbrev pub single_road : ℕ → (ℕ → ℕ) → Meaning

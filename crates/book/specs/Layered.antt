@@ -1,5 +1,5 @@
 -- What the layers make of the meaning of the book below.
-use Rattle.std.specs.Prelude.{ℕ, zero, suc, ◌+◌, ◌-◌, Bool, true, false, ◌&&◌, ◌||◌, List, [], ◌∷◌, map, length, ◌==◌, nat_le, nat_lt, slice_index_or}
+use Rattle.std.specs.Prelude.{ℕ, zero, suc, ◌+◌, ◌-◌, Bool, false, ◌&&◌, ◌||◌, List, [], ◌∷◌, map, length, ◌==◌, nat_le, nat_lt, slice_index_or}
 use Rattle.plan.specs.declared.parts.Closure.{Closure}
 use Rattle.book.specs.Meaning.{Meaning, Road, Shown, no_road}
 

@@ -1,9 +1,8 @@
 -- Books with legs added.
-use Rattle.std.proofs.Common.{◌≡◌, ℕ, ◌+◌, ◌<◌, ◌≤◌, true, false, cond, eqb, ltb, ◌≢◌, List, [], ◌∷◌, ◌++◌, length, is_ok, Ok, Err, sym, refl, ap, ◌∙◌, arith}
+use Rattle.std.proofs.Common.{◌≡◌, ℕ, ◌+◌, ◌<◌, ◌≤◌, true, false, cond, eqb, ltb, ◌≢◌, List, [], ◌∷◌, ◌++◌, length, is_ok, Ok, sym, refl, ap, ◌∙◌, arith}
 use Rattle.std.proofs.lemmas.Bool.{cond-false, cond-true, lt-ltb, ne_eqb}
 use Rattle.std.specs.List.{AllByRecursion as All}
 use Rattle.plan.specs.Limits.{most_legs}
-use Rattle.plan.specs.declared.refusals.Refusal.TheVariants as refusal
 use Rattle.book.specs.Below.{sum_below}
 use Rattle.book.specs.Calls.{Answer, Freed, Reserved}
 use Rattle.book.specs.Loads.{admissible}

@@ -1,10 +1,9 @@
 -- How the legs of the bookings change with the bookings.
-use Rattle.std.proofs.Common.{◌≡◌, ℕ, true, false, eqb, List, [], ◌∷◌, ◌++◌, Some, None, Option, sym, refl, ap, ◌∙◌, ⊎_elim}
+use Rattle.std.proofs.Common.{◌≡◌, ℕ, true, false, eqb, List, [], ◌∷◌, ◌++◌, Some, Option, sym, refl, ap, ◌∙◌, ⊎_elim}
 use Rattle.std.proofs.lemmas.List.{append_assoc, append-nil}
 use Rattle.std.proofs.lemmas.Bool.{cases_Bool}
 use Rattle.book.specs.Meaning.{Meaning}
 use Rattle.search.specs.Routes.{legs_of}
-use Rattle.search.specs.declared.route.Route.{Route}
 use Rattle.bookings.specs.Owed.{bare, changed, legs_by_number, more, moved, over, owed_legs, without}
 use Rattle.bookings.specs.declared.states.Booking.{Booking}
 use Rattle.bookings.specs.declared.states.State.{State}

@@ -1,14 +1,14 @@
 -- The steps that the calls make.
-use Rattle.std.proofs.Common.{◌≡◌, ℕ, ◌+◌, true, false, List, [], ◌∷◌, ◌++◌, length, Some, None, Option, sym, refl, ap, ◌∙◌, arith}
+use Rattle.std.proofs.Common.{◌≡◌, ℕ, length, Some, None, sym, ap, ◌∙◌, arith}
 use Rattle.plan.specs.declared.refusals.Refusal.{Refusal}
 use Rattle.book.specs.Meaning.{Meaning}
 use Rattle.search.specs.Routes.{legs_of}
 use Rattle.search.specs.declared.route.Route.{Route}
 use Rattle.walks.specs.declared.requests.Request.{Request}
-use Rattle.bookings.specs.Answers.{Answers, Grants, Moves}
+use Rattle.bookings.specs.Answers.{Answers, Grants}
 use Rattle.bookings.specs.Owed.{changed, more, over, without}
-use Rattle.bookings.specs.Registers.{Acted, DoneWith, ListedToo}
-use Rattle.bookings.specs.States.{leads_to, needed, refusal_of}
+use Rattle.bookings.specs.Registers.{DoneWith, ListedToo}
+use Rattle.bookings.specs.States.{leads_to}
 use Rattle.bookings.specs.Steps.{Step, listed}
 use Rattle.bookings.specs.declared.calls.Answer.TheVariants as answer
 use Rattle.bookings.specs.declared.calls.Call.{Call}

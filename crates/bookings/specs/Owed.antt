@@ -3,8 +3,7 @@ use Rattle.std.specs.Prelude.{ℕ, ◌+◌, Bool, false, cond, List, [], ◌∷�
 use Rattle.book.specs.Meaning.{Meaning, plus}
 use Rattle.book.specs.declared.legs.Leg.{Leg}
 use Rattle.search.specs.Routes.{legs_of}
-use Rattle.search.specs.declared.route.Route.{Route}
-use Rattle.bookings.specs.States.{arrivals, code, leads_to, withdrawals}
+use Rattle.bookings.specs.States.{code, leads_to}
 use Rattle.bookings.specs.declared.calls.Answer.{Answer}
 use Rattle.bookings.specs.declared.calls.Answer.TheVariants.{Done, Granted, NoToken, Refused}
 use Rattle.bookings.specs.declared.calls.Call.{Call}

@@ -1,5 +1,5 @@
 -- One call on a controller: from a book m and a register g to m' and g', with the answer a.
-use Rattle.std.specs.Prelude.{◌≡◌, ℕ, ◌+◌, List, vec_items}
+use Rattle.std.specs.Prelude.{◌≡◌, ◌+◌, List, vec_items}
 use Rattle.book.specs.Meaning.{Meaning}
 use Rattle.bookings.specs.Answers.{Answers}
 use Rattle.bookings.specs.Owed.{after, counted, number_after, over}

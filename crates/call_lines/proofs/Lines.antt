@@ -1,11 +1,11 @@
 -- Whole lines: one call at most, one column at most, and the bytes that decide.
-use Rattle.std.proofs.Common.{◌≡◌, ℕ, suc, ◌+◌, ◌-◌, ◌*◌, ◌<◌, ◌≤◌, min, cond, eqb, List, [], ◌∷◌, ◌++◌, length, get_or, take, drop, Ok, Err, Result, sym, refl, ap, ◌∙◌, subst, ⊎_elim, arith}
+use Rattle.std.proofs.Common.{◌≡◌, ℕ, suc, ◌-◌, ◌<◌, ◌≤◌, cond, eqb, List, [], ◌∷◌, ◌++◌, length, get_or, take, drop, Ok, Err, Result, sym, refl, ap, ◌∙◌, subst, ⊎_elim, arith}
 use Rattle.std.specs.List.{AllByRecursion as All}
 use Rattle.std.proofs.lemmas.List.{append_assoc, length-append, length-take, length-take-le, take_all, take-append-drop, take-take}
 use Rattle.std.proofs.lemmas.Bool.{cases_lt, cases_order}
 use Rattle.call_lines.specs.Grammar.{Digit, Spaced, Spells, letter, numbers}
 use Rattle.call_lines.specs.Parsing.{Answers, Breaks, Continues, Parses, deciding}
-use Rattle.call_lines.specs.Stops.{GoesOn, Stops, StopsAt}
+use Rattle.call_lines.specs.Stops.{GoesOn, StopsAt}
 use Rattle.call_lines.specs.Words.{Run}
 use Rattle.call_lines.specs.declared.calls.LineCall.{LineCall}
 use Rattle.call_lines.specs.declared.calls.LineCall.TheVariants as call

@@ -1,8 +1,8 @@
 -- Where spaced numbers break the form.
-use Rattle.std.proofs.Common.{◌≡◌, ℕ, zero, suc, ◌+◌, ◌*◌, ◌<◌, ◌≤◌, List, [], ◌∷◌, ◌++◌, length, take, drop, sym, refl, ap, ◌∙◌, subst, zero-add, arith}
+use Rattle.std.proofs.Common.{◌≡◌, ℕ, suc, ◌+◌, ◌<◌, List, [], ◌∷◌, ◌++◌, length, take, drop, sym, refl, ap, ◌∙◌, subst, zero-add, arith}
 use Rattle.std.specs.List.{AllByRecursion as All}
 use Rattle.std.proofs.lemmas.List.{append_assoc, append-nil, length-append, length-take-le, take_all, take-append-drop, take-append-le}
-use Rattle.call_lines.specs.Grammar.{Digit, Number, Spaced, most_digits, most_number, read_on, space}
+use Rattle.call_lines.specs.Grammar.{Digit, Number, Spaced, read_on, space}
 use Rattle.call_lines.specs.Stops.{GoesOn, Passes, Stops}
 use Rattle.call_lines.specs.Words.{NoDigit}
 use Rattle.call_lines.proofs.Digits.{digits_take, read_on_append, read_on_ge, run_begins}

@@ -1,5 +1,5 @@
 -- Every plan is within its ranges.
-use Rattle.std.proofs.Common.{◌≡◌, ℕ, true, length, vec_items, vec_len, subst, arith, rules}
+use Rattle.std.proofs.Common.{◌≡◌, true, length, vec_items, vec_len, subst, arith}
 use Rattle.plan.specs.declared.road_plan.Plan.{Plan}
 use Rattle.plan.specs.Content.{Fits, content}
 use Rattle.plan.specs.Ranges.{closures_fit}

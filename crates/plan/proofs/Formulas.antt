@@ -1,11 +1,8 @@
 -- The laws of travel slots and critical counts.
-use Rattle.std.proofs.Common.{◌≡◌, ℕ, ◌+◌, ◌*◌, ◌/◌, ◌<◌, ◌≤◌, min, sym, refl, ◌∙◌, mul_assoc, mul-one, mul-add, mul_left_comm, arith}
+use Rattle.std.proofs.Common.{◌≡◌, ℕ, ◌+◌, ◌*◌, ◌<◌, ◌≤◌, sym, refl, ◌∙◌, mul_assoc, mul-one, mul-add, mul_left_comm, arith}
 use native.Mathlib.Nat.{lt-mul-div-succ, mul-div-le}
-use Rattle.plan.specs.declared.parts.Segment.{Segment}
-use Rattle.plan.specs.declared.parts.Settings.{Settings}
-use Rattle.plan.specs.Critical.{CriticalIsLargest, NotTooDense, critical, thousandths}
-use Rattle.plan.specs.Limits.{most_count}
-use Rattle.plan.specs.Travel.{Nearest, TravelIsNearest, nearest, speed, travel}
+use Rattle.plan.specs.Critical.{CriticalIsLargest, critical}
+use Rattle.plan.specs.Travel.{Nearest, TravelIsNearest, nearest, travel}
 
 pub nearest_is_nearest : (a b : ℕ) → 0 < b → Nearest a b (nearest a b)
 nearest_is_nearest a b positive =

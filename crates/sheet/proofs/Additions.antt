@@ -1,14 +1,13 @@
 -- Adding the records of a checked section to a plan, one after the other: none is refused.
-use Rattle.std.proofs.Common.{◌≡◌, ℕ, ◌+◌, ◌<◌, ◌≤◌, Bool, true, cond, ◌&&◌, ltb, List, [], ◌∷◌, ◌++◌, length, is_ok, None, Ok, Result, sym, refl, ap, ◌∙◌, subst, arith}
+use Rattle.std.proofs.Common.{◌≡◌, ◌+◌, ◌≤◌, true, ltb, List, [], ◌∷◌, length, None, sym, ap, ◌∙◌, subst, arith}
 use Rattle.std.proofs.lemmas.List.{append_assoc, append-nil, length-append}
 use Rattle.std.proofs.lemmas.Bool.{and_parts, cond-true, lt-ltb}
-use Rattle.plan.specs.Content.{Content, closure_addition, numbered, segment_addition, with_closure, with_segment}
+use Rattle.plan.specs.Content.{Content, closure_addition, segment_addition, with_closure, with_segment}
 use Rattle.plan.specs.Limits.{most_closures, most_segments}
 use Rattle.plan.specs.Ranges.{closure_rules, closures_fit, segment_rules, segments_fit}
 use Rattle.plan.specs.Rules.{every, first_broken, keeps}
 use Rattle.plan.specs.declared.parts.Closure.{Closure}
 use Rattle.plan.specs.declared.parts.Segment.{Segment}
-use Rattle.plan.specs.declared.refusals.Fault.{Fault}
 use Rattle.plan.proofs.Ruling.{none_broken}
 use Rattle.sheet.specs.Reads.{with_closures, with_segments}
 

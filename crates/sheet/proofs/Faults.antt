@@ -1,5 +1,5 @@
 -- The first fault of a sheet by its parts: the head, the settings, the segments, the closures.
-use Rattle.std.proofs.Common.{◌≡◌, ℕ, ◌+◌, ◌*◌, ◌/◌, List, ◌++◌, length, Some, None, sym, ap, ◌∙◌, arith}
+use Rattle.std.proofs.Common.{◌≡◌, ℕ, ◌+◌, ◌/◌, List, ◌++◌, length, Some, None, sym, ap, ◌∙◌, arith}
 use Rattle.std.specs.Option.{option_map}
 use Rattle.plan.specs.Ranges.{settings_rules}
 use Rattle.plan.specs.Rules.{Rule, first_broken, saying}
@@ -7,7 +7,7 @@ use Rattle.plan.specs.declared.parts.Setting.{Setting}
 use Rattle.plan.specs.declared.refusals.Fault.{Fault}
 use Rattle.plan.proofs.Ruling.{all_kept, broken_first, broken_saying, broken_second}
 use Rattle.sheet.specs.declared.sections.Sections.{Sections}
-use Rattle.sheet.specs.Format.{closure_layout, closures_pair, decode, extent, offset, segment_layout, segments_pair, settings_pair}
+use Rattle.sheet.specs.Format.{closure_layout, closures_pair, decode, extent, offset, segment_layout, segments_pair}
 use Rattle.sheet.specs.Laid.{Laid}
 use Rattle.sheet.specs.Records.{told_all}
 use Rattle.sheet.specs.Splits.{Split, sections_content}

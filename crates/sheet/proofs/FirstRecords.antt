@@ -1,5 +1,5 @@
 -- The first record of a section, byte by byte.
-use Rattle.std.proofs.Common.{◌≡◌, ℕ, ◌+◌, ◌*◌, ◌≤◌, List, [], ◌∷◌, length, get_or, take, drop, refl, ap, ◌∙◌, zero-add, arith}
+use Rattle.std.proofs.Common.{◌≡◌, ℕ, ◌+◌, ◌*◌, ◌≤◌, List, [], ◌∷◌, length, get_or, take, drop, ap, ◌∙◌, zero-add, arith}
 use Rattle.plan.specs.declared.parts.Closure.{Closure}
 use Rattle.plan.specs.declared.parts.Segment.{Segment}
 use Rattle.sheet.specs.Format.{closure_layout, segment_layout}

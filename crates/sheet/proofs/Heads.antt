@@ -1,13 +1,9 @@
 -- The rules of the head say that the sheet is laid out in order, and no more.
-use Rattle.std.proofs.Common.{◌≡◌, ℕ, ◌+◌, ◌*◌, ◌%◌, ◌≤◌, Bool, true, ◌&&◌, eqb, leb, List, [], ◌∷◌, ◌++◌, length, refl, arith}
-use Rattle.std.proofs.lemmas.Bool.{and_from, and_parts, eq-eqb, eqb-true, le-leb, leb-true}
+use Rattle.std.proofs.Common.{◌≡◌, ℕ, true, List, arith}
 use Rattle.std.proofs.lemmas.Bool.Decides.{nat_tests}
 use Rattle.plan.specs.Rules.{keeps}
-use Rattle.plan.proofs.Ruling.{keeps_append, keeps_parts}
-use Rattle.sheet.specs.Format.{closures_pair, extent, offset, segments_pair, settings_pair}
 use Rattle.sheet.specs.Laid.{Laid}
-use Rattle.sheet.specs.Numbers.{field}
-use Rattle.sheet.specs.Verdict.{ends, extent_rules, format_rules, head_rules, holds_records, pair_rules}
+use Rattle.sheet.specs.Verdict.{extent_rules, format_rules, head_rules, pair_rules}
 
 pub laid_from_rules : (bytes : List ℕ) → keeps (head_rules bytes) ≡ true → Laid bytes
 unfolding head_rules format_rules pair_rules extent_rules

@@ -1,5 +1,5 @@
 -- What reading a sheet without a fault comes to.
-use Rattle.std.proofs.Common.{◌≡◌, ℕ, true, List, is_some, Some, None, Err, sym, ap, ◌∙◌, subst, arith}
+use Rattle.std.proofs.Common.{◌≡◌, ℕ, List, is_some, Some, None, Err, sym, ap, ◌∙◌, subst, arith}
 use Rattle.std.specs.Int.Digits.{AllBelowBase}
 use Rattle.plan.specs.Content.{Begins, Content, Fits}
 use Rattle.plan.specs.Ranges.{settings_fit, settings_rules}

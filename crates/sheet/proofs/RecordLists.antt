@@ -1,10 +1,10 @@
 -- Records one after the other: writing them all and telling them all undo each other.
-use Rattle.std.proofs.Common.{◌≡◌, ℕ, zero, suc, ◌+◌, ◌-◌, ◌*◌, ◌/◌, ◌<◌, ◌≤◌, List, [], ◌∷◌, ◌++◌, map, length, take, drop, sym, refl, ap, ◌∙◌, ap₂, add_comm, mul-zero, mul-suc, add-one, arith}
+use Rattle.std.proofs.Common.{◌≡◌, ℕ, zero, suc, ◌+◌, ◌*◌, ◌/◌, ◌<◌, ◌≤◌, List, [], ◌∷◌, ◌++◌, map, length, take, drop, sym, ap, ◌∙◌, ap₂, add_comm, mul-zero, mul-suc, add-one, arith}
 use native.Mathlib.Nat.{add-div_left, div-eq_of_lt}
 use Rattle.std.proofs.ByRecursion.{All-drop, All-take}
 use Rattle.std.proofs.lemmas.List.{append-nil, drop_at, length-append, length-drop, length-take-le, nil_from_length, take_all, take-append-drop, take_at}
 use Rattle.std.specs.Int.Digits.{AllBelowBase}
-use Rattle.std.specs.List.{flat_map, AllByRecursion as All}
+use Rattle.std.specs.List.{AllByRecursion as All}
 use Rattle.sheet.specs.Records.{Layout, packed, rows, rows_by, size, told, told_all, unpacked, written, written_all}
 use Rattle.sheet.proofs.Packing.{Narrow, length_packed, length_unpacked, packed_unpacked, unpacked_packed}
 

@@ -1,16 +1,15 @@
 -- The two round trips: a plan's sheet is accepted as that plan, and an accepted sheet is the sheet of its plan.
-use Rattle.std.proofs.Common.{◌≡◌, ℕ, zero, suc, ◌+◌, ◌-◌, ◌*◌, ◌/◌, ◌%◌, ◌^◌, ◌<◌, ◌≤◌, Bool, true, List, [], ◌∷◌, ◌++◌, map, length, take, drop, None, sym, refl, ap, ◌∙◌, ap₂, arith}
+use Rattle.std.proofs.Common.{◌≡◌, ℕ, zero, suc, ◌+◌, ◌*◌, ◌/◌, ◌<◌, ◌≤◌, List, [], ◌∷◌, ◌++◌, length, take, drop, None, sym, refl, ap, ◌∙◌, ap₂, arith}
 use Rattle.std.proofs.ByRecursion.{All-drop, All-take}
-use Rattle.std.proofs.lemmas.List.{append_assoc, append-nil, drop_at, drop-drop, length-append, length-drop, length-map, length-take-le, take_all, take-append-drop, take_at}
-use Rattle.std.specs.Int.Digits.{AllBelowBase, number_from_digits}
+use Rattle.std.proofs.lemmas.List.{append-nil, drop_at, drop-drop, length-append, length-drop, length-map, length-take-le, take_all, take-append-drop, take_at}
+use Rattle.std.specs.Int.Digits.{AllBelowBase}
 use Rattle.plan.specs.Content.{Content, Fits}
-use Rattle.plan.specs.Rules.{first_broken, keeps}
 use Rattle.plan.proofs.Ruling.{all_kept, keeps_append, keeps_parts, none_broken}
 use Rattle.sheet.specs.Format.{closure_layout, closures_pair, decode, encode, extent, head_values, head_widths, offset, section, segment_layout, segments_pair, settings_layout, settings_pair}
 use Rattle.sheet.specs.Laid.{Laid}
-use Rattle.sheet.specs.Numbers.{big_endian, field}
+use Rattle.sheet.specs.Numbers.{field}
 use Rattle.sheet.specs.Records.{Layout, packed, rows, rows_by, size, told, told_all, unpacked, written, written_all}
-use Rattle.sheet.specs.Verdict.{Verdict, accepted, content_rules, head_rules, judged, sheet_fault, verdict}
+use Rattle.sheet.specs.Verdict.{accepted, content_rules, head_rules, judged, sheet_fault, verdict}
 use Rattle.sheet.proofs.BigEndian.{number_big_endian}
 use Rattle.sheet.proofs.Contents.{content_fits, content_keeps}
 use Rattle.sheet.proofs.Heads.{laid_from_rules, rules_from_laid}

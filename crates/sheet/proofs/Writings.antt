@@ -1,10 +1,10 @@
 -- The parts of a sheet, written one after the other, are the sheet.
-use Rattle.std.proofs.Common.{◌≡◌, ℕ, ◌+◌, ◌*◌, ◌≤◌, List, [], ◌∷◌, ◌++◌, length, take, drop, sym, refl, ap, ◌∙◌, ap₂, zero-add, arith}
+use Rattle.std.proofs.Common.{◌≡◌, ℕ, ◌+◌, ◌≤◌, List, ◌++◌, length, take, drop, sym, ap, ◌∙◌, ap₂, zero-add, arith}
 use Rattle.std.proofs.lemmas.List.{append_assoc, length-append, take_at}
 use Rattle.plan.specs.Content.{Content, Fits}
 use Rattle.sheet.specs.Format.{closure_layout, encode, head_values, head_widths, segment_layout, settings_layout}
 use Rattle.sheet.specs.Records.{packed, written, written_all}
-use Rattle.sheet.specs.Verdict.{accepted, verdict}
+use Rattle.sheet.specs.Verdict.{verdict}
 use Rattle.sheet.specs.Writes.{Written, over}
 use Rattle.sheet.proofs.Layouts.{closure_faithful, segment_faithful}
 use Rattle.sheet.proofs.Overlays.{over_over}

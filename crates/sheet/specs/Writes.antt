@@ -1,5 +1,5 @@
 -- What writing a sheet leaves in the memory.
-use Rattle.std.specs.Prelude.{◌≡◌, ℕ, ◌+◌, ◌<◌, ◌≤◌, List, [], ◌++◌, length, take, drop, Ok, Err, Result}
+use Rattle.std.specs.Prelude.{◌≡◌, ℕ, ◌+◌, ◌<◌, ◌≤◌, List, ◌++◌, length, take, drop, Ok, Err, Result}
 use Rattle.plan.specs.Content.{Content}
 use Rattle.plan.specs.Refusals.{outside}
 use Rattle.plan.specs.declared.refusals.Fault.{Fault}

@@ -1,19 +1,19 @@
 -- Worked routes: a table of slots is solved if no leg betters it and each slot is reached, which a finite test shows.
-use Rattle.std.proofs.Common.{◌≡◌, ℕ, zero, suc, ◌+◌, ◌-◌, ◌<◌, ◌≤◌, Bool, true, false, not, ◌||◌, eqb, ltb, leb, ◌≢◌, List, [], ◌∷◌, length, get_or, replicate, sym, refl, ◌∙◌, subst, inl, inr, ⊎_elim, arith}
+use Rattle.std.proofs.Common.{◌≡◌, ℕ, zero, suc, ◌+◌, ◌<◌, ◌≤◌, Bool, true, false, not, ◌||◌, eqb, leb, ◌≢◌, List, [], ◌∷◌, length, get_or, replicate, sym, refl, ◌∙◌, subst, inr, arith}
 use Rattle.std.proofs.lemmas.List.{get_or-replicate, length-replicate}
-use Rattle.std.proofs.lemmas.Bool.{both_ways, le-leb, leb-true, ltb-true, ne_eqb}
+use Rattle.std.proofs.lemmas.Bool.{both_ways, le-leb, leb-true, ne_eqb}
 use Rattle.plan.specs.Limits.{most_legs}
 use Rattle.book.specs.Below.{all_below}
-use Rattle.book.specs.Layered.{closed_by, closing}
+use Rattle.book.specs.Layered.{closing}
 use Rattle.book.specs.Loads.{admissible, has_room, load_below}
-use Rattle.book.specs.Meaning.{Meaning, RoadFits, Sound, horizon, no_road, one, plus, segments, total}
+use Rattle.book.specs.Meaning.{Meaning, RoadFits, Sound, horizon, no_road, plus, segments, total}
 use Rattle.book.specs.declared.legs.Leg.{Leg}
 use Rattle.book.proofs.Loading.{admitted_known, admitted_within, total_counts}
 use Rattle.book.proofs.Sums.{all_at}
 use Rattle.walks.specs.Examples.{Worked, WorkedRoutes, after_first, after_second, example}
 use Rattle.walks.specs.Labels.{at, far}
 use Rattle.walks.specs.Relaxed.{Enough}
-use Rattle.walks.specs.Searching.{Searching, Solved}
+use Rattle.walks.specs.Searching.{Solved}
 use Rattle.walks.specs.Tables.{TableInto, TableLast}
 use Rattle.walks.specs.Walks.{Last, Takes, Walk, from, leg, slots, to}
 use Rattle.walks.proofs.Solving.{solved}

@@ -1,5 +1,4 @@
-use Rattle.std.proofs.Common.{◌≡◌, ℕ, ◌-◌, sym, ap, ◌∙◌, ap₂, arith}
-use Rattle.book.specs.Meaning.{horizon}
+use Rattle.std.proofs.Common.{ℕ, ◌-◌, sym, ap, ◌∙◌, ap₂, arith}
 use Rattle.book.specs.Rooms.{room_below}
 use Rattle.book.proofs.Rooming.{room_held}
 use Rattle.book.proofs.Segments.{segment_none, segment_some}

@@ -1,4 +1,4 @@
-use Rattle.std.proofs.Common.{◌≡◌, ◌+◌, ◌-◌, ap, ◌∙◌, arith}
+use Rattle.std.proofs.Common.{◌+◌, ◌-◌, ap, ◌∙◌, arith}
 use Rattle.book.proofs.Windows.{load_grows, load_slides, load_small}
 use Rattle.book.proofs.rooms.load_after.Goals as goal
 

@@ -1,4 +1,4 @@
-use Rattle.std.proofs.Common.{◌≡◌, ◌+◌, sym, ap, ◌∙◌, add-zero, add_assoc, arith}
+use Rattle.std.proofs.Common.{◌≡◌, sym, ap, ◌∙◌, add-zero, add_assoc, arith}
 use Rattle.book.specs.Loads.{load}
 use Rattle.book.specs.Rooms.{room_below}
 use Rattle.book.proofs.Rooming.{room_fails, room_more, room_none}

@@ -1,4 +1,4 @@
-use Rattle.std.proofs.Common.{◌≤◌, length, refl, arith}
+use Rattle.std.proofs.Common.{◌≤◌, length, arith}
 use Rattle.std.proofs.lemmas.List.{take_all}
 use Rattle.call_lines.proofs.Digits.{digits_more, no_digit_from, no_digit_past}
 use Rattle.call_lines.proofs.parsing.digit_count.Goals as goal

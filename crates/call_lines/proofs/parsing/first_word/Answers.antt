@@ -1,6 +1,5 @@
 use Rattle.std.proofs.Common.{◌≡◌, get_or, drop, refl, arith}
 use Rattle.std.proofs.lemmas.List.{nil_from_length}
-use Rattle.call_lines.specs.Grammar.{Digit}
 use Rattle.call_lines.proofs.Digits.{first_byte, run_from_front}
 use Rattle.call_lines.proofs.parsing.first_word.Goals as goal
 

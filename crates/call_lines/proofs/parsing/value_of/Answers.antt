@@ -1,5 +1,5 @@
 use Rattle.std.proofs.Common.{◌≡◌, ◌≤◌, length, take, refl, arith}
-use Rattle.std.proofs.lemmas.List.{length-take-le, take_all}
+use Rattle.std.proofs.lemmas.List.{take_all}
 use Rattle.call_lines.proofs.Digits.{digits_at, passes_limit, read_on_more}
 use Rattle.call_lines.proofs.parsing.value_of.Goals as goal
 use Rattle.call_lines.proofs.parsing.value_of.Goals.{

@@ -1,4 +1,4 @@
-use Rattle.std.proofs.Common.{◌≡◌, List, ◌∷◌, length, ap, subst, arith}
+use Rattle.std.proofs.Common.{List, ◌∷◌, length, ap, subst, arith}
 use Rattle.std.specs.List.Sorted.{IsPermutation}
 use Rattle.queue.specs.Queue.{held, room}
 use Rattle.walks.specs.Labels.{label}

@@ -1,5 +1,4 @@
-use Rattle.std.proofs.Common.{◌≡◌, sym, refl, ◌∙◌, arith, rules}
-use Rattle.book.specs.Entries.{NextEntry}
+use Rattle.std.proofs.Common.{sym, refl, ◌∙◌, arith}
 use Rattle.book.proofs.Segments.{segment_none}
 use Rattle.queue.specs.Queue.{held}
 use Rattle.walks.proofs.Queues.{keeps_none}

@@ -1,6 +1,4 @@
-use Rattle.std.proofs.Common.{◌⊎◌}
-use Rattle.queue.specs.Queue.{HeapOrder, held}
-use Rattle.walks.specs.Labels.{label_before}
+use Rattle.queue.specs.Queue.{held}
 use Rattle.walks.specs.Searching.{remaining}
 use Rattle.walks.proofs.Looping.{Follows}
 use Rattle.search.proofs.earliest.settle_all.Given as goal

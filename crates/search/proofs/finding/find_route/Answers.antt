@@ -1,4 +1,4 @@
-use Rattle.std.proofs.Common.{◌≡◌, length, is_ok, sym, ap, ◌∙◌, arith}
+use Rattle.std.proofs.Common.{is_ok, sym, ap, ◌∙◌, arith}
 use Rattle.std.proofs.lemmas.Bool.{true≢false}
 use Rattle.walks.proofs.Tables.{solved_from_origin}
 use Rattle.search.specs.Routes.{legs_of}

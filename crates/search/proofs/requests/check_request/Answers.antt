@@ -1,4 +1,4 @@
-use Rattle.std.proofs.Common.{◌≡◌, length, sym, ap, inl, inr, arith}
+use Rattle.std.proofs.Common.{length, sym, ap, inl, inr, arith}
 use Rattle.search.proofs.Checking.{all_checked, checked, junction_unknown, same_junctions, scratch_short, slot_late}
 use Rattle.search.proofs.requests.check_request.Goals as goal
 

@@ -1,5 +1,4 @@
-use Rattle.std.proofs.Common.{ap, arith}
-use Rattle.search.proofs.Stepping.{none_lower, not_into_unknown, step_is_last}
+use Rattle.search.proofs.Stepping.{step_is_last}
 use Rattle.search.proofs.tracing.step_back.Goals as goal
 
 pub returns-in-Some : goal.returns-in-Some

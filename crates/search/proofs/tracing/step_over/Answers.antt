@@ -1,4 +1,4 @@
-use Rattle.std.proofs.Common.{◌≡◌, ◌<◌, sym, subst, ⊎_elim, arith}
+use Rattle.std.proofs.Common.{◌<◌, sym, subst, ⊎_elim, arith}
 use Rattle.std.proofs.lemmas.Bool.{cases_lt}
 use Rattle.walks.specs.Labels.{at}
 use Rattle.book.proofs.Segments.{segment_none}

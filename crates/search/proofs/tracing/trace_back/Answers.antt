@@ -1,5 +1,5 @@
 use Rattle.std.proofs.Common.{arith}
-use Rattle.walks.proofs.Tracing.{trace_begins, trace_ends, trace_goes_on, trace_room, trace_step}
+use Rattle.walks.proofs.Tracing.{trace_ends, trace_goes_on, trace_room, trace_step}
 use Rattle.search.proofs.tracing.trace_back.Goals as goal
 
 pub unreachable-requires : goal.unreachable-requires

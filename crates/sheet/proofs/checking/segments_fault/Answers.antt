@@ -1,4 +1,4 @@
-use Rattle.std.proofs.Common.{◌≡◌, None, sym, ◌∙◌, arith, rules}
+use Rattle.std.proofs.Common.{◌≡◌, None, sym, ◌∙◌, arith}
 use Rattle.plan.specs.Ranges.{segment_rules}
 use Rattle.plan.specs.Rules.{first_broken}
 use Rattle.sheet.specs.Format.{segment_layout}

@@ -1,4 +1,4 @@
-use Rattle.std.proofs.Common.{◌≡◌, ℕ, ◌++◌, Some, None, sym, ◌∙◌, arith, rules}
+use Rattle.std.proofs.Common.{◌≡◌, ℕ, ◌++◌, None, sym, ◌∙◌, arith, rules}
 use Rattle.plan.specs.Rules.{first_broken}
 use Rattle.plan.proofs.Ruling.{broken_first, broken_second}
 use Rattle.sheet.specs.Verdict.{extent_rules, format_rules, head_rules, pair_rules}

@@ -1,10 +1,9 @@
-use Rattle.std.proofs.Common.{◌≡◌, ◌≤◌, true, [], length, sym, refl, ap, ◌∙◌, subst, arith, rules}
-use Rattle.plan.specs.Content.{Content, content}
+use Rattle.std.proofs.Common.{◌≡◌, true, length, sym, ap, ◌∙◌, subst, arith, rules}
+use Rattle.plan.specs.Content.{Content}
 use Rattle.plan.specs.Ranges.{closures_fit, segments_fit}
 use Rattle.sheet.specs.Format.{closure_layout, segment_layout}
 use Rattle.sheet.specs.Reads.{with_closures, with_segments}
 use Rattle.sheet.specs.Records.{told_all}
-use Rattle.sheet.specs.Splits.{sections_content}
 use Rattle.sheet.proofs.reading.fill.Goals as goal
 
 pub add_segments-requires : goal.add_segments-requires

@@ -1,7 +1,6 @@
-use Rattle.std.proofs.Common.{◌≡◌, None, sym}
+use Rattle.std.proofs.Common.{sym}
 use Rattle.std.proofs.lemmas.Result.{err_from_is_err_and}
 use Rattle.plan.specs.Content.{content}
-use Rattle.sheet.specs.Verdict.{sheet_fault}
 use Rattle.sheet.proofs.Faults.{head_found}
 use Rattle.sheet.proofs.Readings.{accepted_as, begin_failed, refused_by, sections_fit}
 use Rattle.sheet.proofs.reading.read.Goals as goal

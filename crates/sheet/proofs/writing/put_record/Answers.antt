@@ -1,4 +1,4 @@
-use Rattle.std.proofs.Common.{◌≡◌, ◌+◌, ◌≤◌, length, get_or, arith}
+use Rattle.std.proofs.Common.{◌+◌, ◌≤◌, length, get_or, arith}
 use Rattle.sheet.specs.Fields.{field_bytes}
 use Rattle.sheet.specs.declared.fields.Field.{Field}
 use Rattle.sheet.proofs.BigEndian.{length_big_endian}

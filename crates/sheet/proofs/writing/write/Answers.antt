@@ -1,4 +1,4 @@
-use Rattle.std.proofs.Common.{◌≡◌, ◌+◌, ◌*◌, ◌≤◌, length, refl, ap, ◌∙◌, ap₂, arith, rules}
+use Rattle.std.proofs.Common.{◌≡◌, ◌+◌, ◌≤◌, length, ap, ◌∙◌, ap₂, arith, rules}
 use Rattle.plan.specs.Content.{content}
 use Rattle.plan.proofs.Fitting.{plan_fits}
 use Rattle.sheet.specs.Format.{closure_layout, head_values, head_widths, segment_layout, settings_layout}

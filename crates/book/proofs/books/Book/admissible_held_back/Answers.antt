@@ -1,7 +1,6 @@
-use Rattle.std.proofs.Common.{◌≡◌, ℕ, ◌-◌, true, ◌&&◌, sym, ap, ◌∙◌, ap₂, arith}
+use Rattle.std.proofs.Common.{◌≡◌, ℕ, ◌-◌, sym, ap, ◌∙◌, ap₂, arith}
 use Rattle.std.proofs.lemmas.Bool.{and_from, and_left, and_right}
-use Rattle.book.specs.Layered.{held_back}
-use Rattle.book.specs.Loads.{admissible, has_room}
+use Rattle.book.specs.Loads.{admissible}
 use Rattle.book.specs.Meaning.{road}
 use Rattle.book.specs.Rooms.{room_below}
 use Rattle.book.proofs.Loading.{admitted_known, admitted_within}

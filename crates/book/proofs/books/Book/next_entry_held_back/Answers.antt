@@ -1,4 +1,4 @@
-use Rattle.std.proofs.Common.{◌≡◌, sym, ap, ◌∙◌, arith}
+use Rattle.std.proofs.Common.{sym, ap, arith}
 use Rattle.book.specs.Layered.{held_back}
 use Rattle.book.proofs.Entering.{none_after, none_before, none_more, none_yet}
 use Rattle.book.proofs.Layering.{held_sound}

@@ -31,8 +31,8 @@ invariant_of-result c =
       few_segments = omega (arith, count, few);
       joined =
           λ i known.
-              subst (λ j. Joins j (get_or (roads_of n numbers) i no_road)) (sym junctions)
-              (roads_join told fits n numbers count enough each i known);
+          subst (λ j. Joins j (get_or (roads_of n numbers) i no_road)) (sym junctions)
+          (roads_join told fits n numbers count enough each i known);
       measured = roads_measure told fits n numbers count enough each;
     }
 

@@ -36,7 +36,7 @@ invariant_of-result-2 c =
     record {
       room = λ _. omega (arith, same, bytes);
       counted = sym (counts_none s true c.clear.new.cells
-            (λ _ k below. c.clear.ensures.cleared k (omega (arith, same, bytes, below))));
+          (λ _ k below. c.clear.ensures.cleared k (omega (arith, same, bytes, below))));
       few = omega arith;
     }
 

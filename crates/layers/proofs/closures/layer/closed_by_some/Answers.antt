@@ -1,4 +1,4 @@
-use Rattle.std.proofs.Common.{◌≡◌, ◌+◌, ◌||◌, drop, sym, ap, ◌∙◌, arith}
+use Rattle.std.proofs.Common.{◌+◌, ◌||◌, drop, sym, ap, ◌∙◌, arith}
 use Rattle.plan.specs.declared.parts.Closure.{Closure}
 use Rattle.book.specs.Layered.{closed_by}
 use Rattle.book.proofs.Covering.{closed_next, closed_none}

@@ -1,4 +1,4 @@
-use Rattle.std.proofs.Common.{◌≡◌, ℕ, Some, sym, ap, ◌∙◌}
+use Rattle.std.proofs.Common.{ℕ, Some, sym, ap, ◌∙◌}
 use Rattle.std.specs.Option.{option_map}
 use Rattle.book.proofs.Segments.{lowered, segment_held}
 use Rattle.layers.proofs.hold_back.HoldBackLayerBook.segment.Goals as goal

@@ -1,4 +1,4 @@
-use Rattle.std.proofs.Common.{◌≡◌, ℕ, sym, ap, ◌∙◌}
+use Rattle.std.proofs.Common.{ℕ, sym, ap, ◌∙◌}
 use Rattle.book.specs.Meaning.{horizon}
 use Rattle.book.specs.declared.legs.Sizes.{Sizes}
 use Rattle.book.proofs.Layering.{segments_held}

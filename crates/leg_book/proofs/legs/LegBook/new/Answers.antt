@@ -42,7 +42,7 @@ invariant_of-result-2 c =
     record {
       room = λ _. omega (arith, enough);
       legal = λ kept k used.
-            absurd (false≢true (sym (part_cleared s true memory (λ _. c.clear.ensures.cleared) kept k) ∙ used));
+          absurd (false≢true (sym (part_cleared s true memory (λ _. c.clear.ensures.cleared) kept k) ∙ used));
       small = λ kept i e. omega (arith, no_leg_at s true memory (λ _. c.clear.ensures.cleared) kept i e);
       counted = sym (counts_none s true memory (λ _. c.clear.ensures.cleared));
       few = omega arith;

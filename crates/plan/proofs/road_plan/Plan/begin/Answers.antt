@@ -1,4 +1,4 @@
-use Rattle.std.proofs.Common.{◌≡◌, true, None, refl, arith, rules}
+use Rattle.std.proofs.Common.{◌≡◌, None, refl, arith, rules}
 use Rattle.std.proofs.lemmas.Result.{err_from_is_err_and}
 use Rattle.plan.specs.Ranges.{closures_fit, segments_fit, settings_fit, settings_rules}
 use Rattle.plan.specs.Rules.{first_broken}

@@ -1,6 +1,5 @@
-use Rattle.std.proofs.Common.{◌≡◌, Bool, true, not, ◌&&◌, sym, ap, ◌∙◌, ap₂}
+use Rattle.std.proofs.Common.{not, ◌&&◌, sym, ◌∙◌, ap₂}
 use Rattle.std.proofs.lemmas.Bool.{and_left}
-use Rattle.book.specs.Layered.{closing}
 use Rattle.book.specs.Loads.{admissible}
 use Rattle.book.proofs.Layering.{admissible_closed}
 use Rattle.layers.specs.Closures.{kept_closures}

@@ -1,4 +1,4 @@
-use Rattle.std.proofs.Common.{◌≡◌, Bool, true, not, ◌&&◌, sym, ap, ◌∙◌, ap₂}
+use Rattle.std.proofs.Common.{◌&&◌, sym, ◌∙◌, ap₂}
 use Rattle.std.proofs.lemmas.Bool.{and_left}
 use Rattle.book.specs.Layered.{closing, held_back}
 use Rattle.book.specs.Loads.{admissible}

@@ -59,7 +59,7 @@ invariant_of-self c =
     record {
       room = λ kept. omega (arith, b.room kept, length-set memory k (record_of l));
       legal = λ kept. stays_legal s b.kept memory k within (record_of l)
-            (λ _. leg_legal s b.kept memory k within l unused at) (b.legal kept);
+          (λ _. leg_legal s b.kept memory k within l unused at) (b.legal kept);
       small = λ kept. stays_small_more s b.kept memory k within l unused few (b.small kept);
       counted = omega (arith, more, b.counted);
       few = omega arith;
