@@ -4,17 +4,18 @@ SHEET ?= crates/sheet_report/data/plan.bin
 .PHONY: run test bench rejected c-example format
 
 run:
-	@rt check sheet_report > /dev/null || { rt check sheet_report; exit 1; }
 	@rm -rf target/run && mkdir -p target/run && cp "$(SHEET)" target/run/plan.bin
-	@cd target/run && ../bin/sheet_report
+	@(cd crates/sheet_report && rt run) > target/build.log 2>&1 || { cat target/build.log; exit 1; }
+	@cd target/run && ../../crates/sheet_report/out/sheet_report
 
 test:
 	rt ci
 
 # Microseconds of the next entry, by each book's own way and entry by entry.
 bench:
-	@rt check book_bench > /dev/null || { rt check book_bench; exit 1; }
-	@target/bin/book_bench
+	@mkdir -p target
+	@(cd crates/book_bench && rt run) > target/build.log 2>&1 || { cat target/build.log; exit 1; }
+	@crates/book_bench/out/book_bench
 
 # What the compiler refuses of tokens, before anything is proved.
 rejected:
@@ -24,4 +25,4 @@ c-example:
 	@examples/c/run.sh
 
 format:
-	rt fmt
+	@for crate in crates/*; do (cd $$crate && rt fmt) || exit 1; done

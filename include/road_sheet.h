@@ -1,4 +1,5 @@
-/* The check of a road sheet, for C programs. Link with target/staticlib/libsheet.a, which `rt staticlib sheet` makes. */
+/* The check of a road sheet, for C programs. Link with target/staticlib/libsheet.a, which examples/c/run.sh
+ * makes of the crate sheet_c. */
 #ifndef ROAD_SHEET_H
 #define ROAD_SHEET_H
 

@@ -5,26 +5,25 @@ set -eu
 root=$(cd "$(dirname "$0")/.." && pwd)
 work=$(mktemp -d)
 trap 'rm -rf "$work"' EXIT
+# with what earlier checks kept in crates/*/out, so that it need not be proved again
 cp -r "$root/crates" "$root/crates.txt" "$work"
-# what is proved already need not be proved again
-if [ -d "$root/target" ]; then cp -r "$root/target" "$work"; fi
 client=crates/token_cases/src/lib.rt
 
 # rejected WHAT OLD NEW WORDS: with OLD replaced by NEW in the client of the tokens, the compiler says WORDS
 rejected() {
     grep -q -F "$2" "$root/$client" || { echo "$1: the client has no '$2'"; exit 1; }
     OLD="$2" NEW="$3" perl -0pe 's/\Q$ENV{OLD}\E/$ENV{NEW}/' "$root/$client" > "$work/$client"
-    if (cd "$work" && rt dev token_cases > out 2>&1); then
+    if (cd "$work/crates/token_cases" && rt check > "$work/said" 2>&1); then
         echo "$1: NOT refused"
         exit 1
     fi
-    if ! grep -q -F "$4" "$work/out"; then
+    if ! grep -q -F "$4" "$work/said"; then
         echo "$1: refused, but not for its types:"
-        tail -5 "$work/out"
+        tail -5 "$work/said"
         exit 1
     fi
     echo "$1: refused"
-    grep -F "$4" "$work/out" | head -1 | sed "s|$work/||"
+    grep -F "$4" "$work/said" | head -1 | sed "s|$work/||"
 }
 
 rejected "a hold that arrives" \

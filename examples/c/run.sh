@@ -4,8 +4,9 @@
 set -eu
 cd "$(dirname "$0")/../.."
 out=target/c-example
-mkdir -p "$out"
-rt staticlib sheet > "$out/staticlib.log" 2>&1 || { tail -n 20 "$out/staticlib.log"; exit 1; }
+mkdir -p "$out" target/staticlib
+(cd crates/sheet_c && rt lib) > "$out/staticlib.log" 2>&1 || { tail -n 20 "$out/staticlib.log"; exit 1; }
+cp crates/sheet_c/out/libsheet_c.a target/staticlib/libsheet.a
 cc -std=c99 -Wall -Wextra -Werror -O2 -Iinclude examples/c/check_sheet.c target/staticlib/libsheet.a -o "$out/check_sheet"
 
 good=crates/sheet_report/data/plan.bin

@@ -1,4 +1,4 @@
-// The check as C programs call it; include/road_sheet.h declares it.
+// The check in one number, which the static library `sheet_c` exports to C programs.
 ghost use Rattle.std.specs.Prelude.{◌≡◌};
 ghost use Rattle.sheet.specs.Verdict.{fault_code, sheet_fault};
 
@@ -6,10 +6,8 @@ use crate::checking::check;
 
 const PLACES: u64 = 4_294_967_296;
 
-// The refusal's number times 2^32 and the place, or 0 for a sheet without a fault. C passes the slice as a pointer to
-// its first byte and a length.
-#[unsafe(no_mangle)]
-pub extern "C" fn road_sheet_check(bytes: &[u8]) -> u64
+// The refusal's number times 2^32 and the place, or 0 for a sheet without a fault.
+pub fn road_sheet_check(bytes: &[u8]) -> u64
     ensures { result ≡ fault_code (sheet_fault bytes.now) }
 {
     match check(bytes) {
