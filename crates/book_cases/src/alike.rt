@@ -7,6 +7,7 @@ use layers::{ClosureLayer, HoldBackLayer};
 use leg_book::{LegBook, LegRecord};
 use plan::Plan;
 use std::process::Abort;
+use std::test::Fail;
 
 // Each question for each leg of three segments, one of which is unknown, and of twelve entries, two past the horizon.
 fn same_answers<A: Book, B: Book>(rt: &impl Abort, one: &A, other: &B) {

@@ -5,6 +5,7 @@ use book::Book;
 use grid_book::GridBook;
 use leg_book::{LegBook, LegRecord};
 use std::process::Abort;
+use std::test::Fail;
 
 fn reserve_times<B: Book>(rt: &impl Abort, book: &mut B, segment: u16, entry: u16, times: u16) {
     for _ in 0..times {

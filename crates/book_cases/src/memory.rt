@@ -5,6 +5,7 @@ use book::Book;
 use grid_book::GridBook;
 use leg_book::{LegBook, LegRecord};
 use std::process::Abort;
+use std::test::Fail;
 
 // Every leg is barred, and a leg can neither be reserved nor freed.
 fn keeps_none<B: Book>(rt: &impl Abort, book: &mut B) {
