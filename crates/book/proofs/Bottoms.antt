@@ -74,7 +74,7 @@ module _ (s : Shown) (kept : Bool) where
   standing_none held i e none =
       elim (cases_Bool (keeps_at s kept i e)) [
         | inl told ↦ cond-true (keeps_at s kept i e) (held i e) 0 told ∙ none
-        | inr not-told ↦ cond-false (keeps_at s kept i e) (held i e) 0 not-told
+        | inr not_told ↦ cond-false (keeps_at s kept i e) (held i e) 0 not_told
       ]
 
   -- over too little memory none stands
@@ -86,7 +86,7 @@ module _ (s : Shown) (kept : Bool) where
   standing_kept held i e some =
       elim (cases_Bool (keeps_at s kept i e)) [
         | inl told ↦ at_kept i e told
-        | inr not-told ↦ absurd (some (cond-false (keeps_at s kept i e) (held i e) 0 not-told))
+        | inr not_told ↦ absurd (some (cond-false (keeps_at s kept i e) (held i e) 0 not_told))
       ]
 
   pub bottom_sound : (held : ℕ → ℕ → ℕ) → ShownFits s → total (bottom s kept held) ≤ most_legs
@@ -113,9 +113,9 @@ module _ (s : Shown) (kept : Bool) where
     apart_same i e apart =
         elim (cases_Bool (keeps_at s kept i e)) [
           | inl told ↦ ap (λ n. cond (keeps_at s kept i e) n 0) (elsewhere i e (at_kept i e told) apart)
-          | inr not-told ↦
-              cond-false (keeps_at s kept i e) (more i e) 0 not-told
-              ∙ sym (cond-false (keeps_at s kept i e) (less i e) 0 not-told)
+          | inr not_told ↦
+              cond-false (keeps_at s kept i e) (more i e) 0 not_told
+              ∙ sym (cond-false (keeps_at s kept i e) (less i e) 0 not_told)
         ]
 
     stands : (i e : ℕ) → (bottom s kept more).standing i e ≡ (plus (bottom s kept less) l).standing i e
@@ -124,11 +124,11 @@ module _ (s : Shown) (kept : Bool) where
         (λ segment.
         ⊎_elim
         (λ entry.
-        let now-there = bottom_at more l.segment l.entry at in
-        let was-there = bottom_at less l.segment l.entry at in
+        let now_there = bottom_at more l.segment l.entry at in
+        let was_there = bottom_at less l.segment l.entry at in
         subst (λ j. (bottom s kept more).standing j e ≡ (plus (bottom s kept less) l).standing j e) segment
         (subst (λ k. (bottom s kept more).standing l.segment k ≡ (plus (bottom s kept less) l).standing l.segment k)
-        entry (omega (arith, now-there, was-there, here, one_here l))))
+        entry (omega (arith, now_there, was_there, here, one_here l))))
         (λ apart. let none : one l i e ≡ 0 = let no = ne_eqb l.entry e apart in grind (arith, no) in
         omega (arith, apart_same i e (inr apart), none))
         (cases_eq l.entry e))
@@ -152,7 +152,7 @@ module _ (s : Shown) (kept : Bool) where
       (λ i e.
       elim (cases_Bool (keeps_at s kept i e)) [
         | inl told ↦ cond-true (keeps_at s kept i e) (held i e) 0 told ∙ none i e (at_kept i e told)
-        | inr not-told ↦ cond-false (keeps_at s kept i e) (held i e) 0 not-told
+        | inr not_told ↦ cond-false (keeps_at s kept i e) (held i e) 0 not_told
       ])
       refl
 

@@ -51,5 +51,5 @@ module _ (m : Meaning) (i from : ℕ) where
             let within = admitted_within m _ admitted in
             let takes = (sound.plan_fits.roads_fit i known).takes_a_slot in
             none k later (omega arith)
-        | inr not-admitted ↦ not-admitted
+        | inr not_admitted ↦ not_admitted
       ]

@@ -40,10 +40,10 @@ freed_gives_back m reserved freed l r more less =
     (ok, plus_cancel freed m l (sym left ∙ more.change))
 
 -- a layer that hands a leg on to the book below, once it is admissible in both
-pub reserved_over : (m after over over-after : Meaning) (l : Leg) (r : Answer) → Reserved m l r after
+pub reserved_over : (m after over over_after : Meaning) (l : Leg) (r : Answer) → Reserved m l r after
     → admissible over l ≡ true → admissible m l ≡ true → total over ≡ total m
-    → over-after ≡ cond (is_ok r) (plus over l) over → Reserved over l r over-after
-reserved_over m after over over-after l r reserved admitted below same change =
+    → over_after ≡ cond (is_ok r) (plus over l) over → Reserved over l r over_after
+reserved_over m after over over_after l r reserved admitted below same change =
     record {
       answer =
           reserved.answer

@@ -90,12 +90,12 @@ pub record SizesFit (s : Settings) : Type 0 where
 pub sizes_fit : (s : Settings) → settings_fit s ≡ true → SizesFit s
 unfolding settings_fit settings_rules
 sizes_fit s fit =
-    let behind-length = (and_parts (within 1 65535 s.slot_length) _ fit).1 in
-    let behind-density = (and_parts (within 0 65535 s.density) _ behind-length).1 in
-    let at-horizon = and_parts (within 1 most_slots s.horizon) _ behind-density in
-    let at-junctions = and_parts (within 2 most_junctions s.junctions) true at-horizon.1 in
-    let horizon = in_range 1 most_slots s.horizon at-horizon.0 in
-    let junctions = in_range 2 most_junctions s.junctions at-junctions.0 in
+    let behind_length = (and_parts (within 1 65535 s.slot_length) _ fit).1 in
+    let behind_density = (and_parts (within 0 65535 s.density) _ behind_length).1 in
+    let at_horizon = and_parts (within 1 most_slots s.horizon) _ behind_density in
+    let at_junctions = and_parts (within 2 most_junctions s.junctions) true at_horizon.1 in
+    let horizon = in_range 1 most_slots s.horizon at_horizon.0 in
+    let junctions = in_range 2 most_junctions s.junctions at_junctions.0 in
     record {
       some_slot = horizon.0;
       few_slots = horizon.1;

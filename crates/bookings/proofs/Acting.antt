@@ -22,8 +22,8 @@ module _ (g g' : Register) (act : Act) (n i : ℕ) (b : Booking) (at : i ≡ pla
       → g'.withdrawn ≡ g.withdrawn → g'.arrived ≡ g.arrived → DoneWith g act n b.route g'
   done_moved s again read_again leads items withdrawn arrived =
       let same : again ≡ b = read_again ∙ get_or_default (listed g) i again b below ∙ sym read in
-      let none-withdrawn = leads.1 in
-      let none-arrived = leads.2 in
+      let none_withdrawn = leads.1 in
+      let none_arrived = leads.2 in
       record {
         stood = stands_here n (listed g) i b at below read (needed act) ∙ fits;
         items =
@@ -40,8 +40,8 @@ module _ (g g' : Register) (act : Act) (n i : ℕ) (b : Booking) (at : i ≡ pla
   pub done_withdrawn : Leads act Withdrawn → listed g' ≡ remove (listed g) i
       → g'.withdrawn ≡ g.withdrawn + 1 → g'.arrived ≡ g.arrived → DoneWith g act n b.route g'
   done_withdrawn leads items withdrawn arrived =
-      let one-withdrawn = leads.1 in
-      let none-arrived = leads.2 in
+      let one_withdrawn = leads.1 in
+      let none_arrived = leads.2 in
       record {
         stood = stands_here n (listed g) i b at below read (needed act) ∙ fits;
         items =
@@ -57,8 +57,8 @@ module _ (g g' : Register) (act : Act) (n i : ℕ) (b : Booking) (at : i ≡ pla
   pub done_arrived : Leads act Arrived → listed g' ≡ remove (listed g) i
       → g'.withdrawn ≡ g.withdrawn → g'.arrived ≡ g.arrived + 1 → DoneWith g act n b.route g'
   done_arrived leads items withdrawn arrived =
-      let none-withdrawn = leads.1 in
-      let one-arrived = leads.2 in
+      let none_withdrawn = leads.1 in
+      let one_arrived = leads.2 in
       record {
         stood = stands_here n (listed g) i b at below read (needed act) ∙ fits;
         items =

@@ -1,7 +1,7 @@
 -- Books with legs added.
 use Rattle.std.proofs.Common.{◌≡◌, ℕ, ◌+◌, ◌<◌, ◌≤◌, true, false, cond, eqb, ltb, ◌≢◌, List, [], ◌∷◌, ◌++◌, length, is_ok, Ok, sym, refl, ap, ◌∙◌, arith}
 use Rattle.std.proofs.lemmas.Bool.{cond-false, cond-true, lt-ltb, ne_eqb}
-use Rattle.std.specs.List.{AllByRecursion as All}
+use Rattle.std.specs.List.{AllByRecursion}
 use Rattle.plan.specs.Limits.{most_legs}
 use Rattle.book.specs.Below.{sum_below}
 use Rattle.book.specs.Calls.{Answer, Freed, Reserved}
@@ -32,7 +32,7 @@ more_swap m (k ∷ ks) ls = more_swap (plus m k) ks ls ∙ ap (λ x. more x ks) 
 
 -- ---- legs of other segments, and totals
 
-pub admissible_more : (m : Meaning) (ls : List Leg) (l : Leg) → All (λ k. k.segment ≢ l.segment) ls
+pub admissible_more : (m : Meaning) (ls : List Leg) (l : Leg) → AllByRecursion (λ k. k.segment ≢ l.segment) ls
     → admissible (more m ls) l ≡ admissible m l
 admissible_more m [] l apart = refl
 admissible_more m (k ∷ ls) l apart =

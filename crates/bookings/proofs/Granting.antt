@@ -1,7 +1,7 @@
 -- What a request comes to.
 use Rattle.std.proofs.Common.{◌≡◌, ℕ, ◌+◌, ◌<◌, ◌≤◌, true, List, [], ◌∷◌, length, is_ok, Ok, Err, Result, sym, refl, ap, ◌∙◌, inl, inr}
 use Rattle.std.proofs.lemmas.Bool.{true≢false}
-use Rattle.std.specs.List.{AllByRecursion as All}
+use Rattle.std.specs.List.{AllByRecursion}
 use Rattle.plan.specs.Limits.{most_legs}
 use Rattle.plan.specs.declared.refusals.Refusal.{Refusal}
 use Rattle.plan.specs.declared.refusals.Refusal.TheVariants.{TooManyLegs}
@@ -43,7 +43,7 @@ module _ (m : Meaning) (n k : ℕ) (q : Request) (room : ℕ) where
 
 -- the legs of a granted route can all be reserved, where the total stays within what a book may have
 walk_admissible : (m : Meaning) (o t v a : ℕ) (legs : List Leg) → Walk m o t v a legs
-    → All (λ l. admissible m l ≡ true) legs
+    → AllByRecursion (λ l. admissible m l ≡ true) legs
 walk_admissible m o t v a [] walk = tt
 walk_admissible m o t v a (l ∷ legs) walk =
     (walk.0.fits, walk_admissible m (to m l.segment) (end_of m l) v a legs walk.1)

@@ -2,7 +2,7 @@
 use Rattle.std.proofs.Common.{◌≡◌, ℕ, zero, suc, ◌+◌, ◌<◌, true, ◌≢◌, List, [], ◌∷◌, ◌++◌, length, get_or, take, drop, sym, ap, ◌∙◌, subst, arith}
 use Rattle.std.proofs.ByRecursion.{All-get_or}
 use Rattle.std.proofs.lemmas.List.{drop_more, length-take-le, take_more}
-use Rattle.std.specs.List.{AllByRecursion as All}
+use Rattle.std.specs.List.{AllByRecursion}
 use Rattle.plan.specs.Limits.{most_legs}
 use Rattle.book.specs.Calls.{Answer, Freed, Reserved}
 use Rattle.book.specs.Loads.{admissible}
@@ -15,7 +15,7 @@ use Rattle.bookings.proofs.Adding.{admissible_more, freed_one, more_append, more
 
 -- of legs on different segments, those before the k-th use other segments than it
 apart_before : (ls : List Leg) (k : ℕ) (d : Leg) → k < length ls → Different (segments_of ls)
-    → All (λ l. l.segment ≢ (get_or ls k d).segment) (take k ls)
+    → AllByRecursion (λ l. l.segment ≢ (get_or ls k d).segment) (take k ls)
 apart_before [] k d within apart = absurd (omega arith)
 apart_before (l ∷ ls) zero d within apart = tt
 apart_before (l ∷ ls) (suc k) d within apart = (
@@ -23,7 +23,7 @@ apart_before (l ∷ ls) (suc k) d within apart = (
   apart_before ls k d (omega arith) apart.1,
 )
   where
-    other : (ls : List Leg) (k : ℕ) (d : Leg) → k < length ls → All (λ i. i ≢ l.segment) (segments_of ls)
+    other : (ls : List Leg) (k : ℕ) (d : Leg) → k < length ls → AllByRecursion (λ i. i ≢ l.segment) (segments_of ls)
         → (get_or ls k d).segment ≢ l.segment
     other [] k d within apart = absurd (omega arith)
     other (x ∷ ls) zero d within apart = apart.0
@@ -35,7 +35,7 @@ module _ (m before after : Meaning) (ls : List Leg) (k : ℕ) (l : Leg) (within 
   still_admissible : Reservable m ls → before ≡ more m (take k ls) → admissible before l ≡ true
   still_admissible ok is =
       let others =
-      subst (λ (x : Leg). All (λ y. y.segment ≢ x.segment) (take k ls)) (sym read)
+      subst (λ (x : Leg). AllByRecursion (λ y. y.segment ≢ x.segment) (take k ls)) (sym read)
       (apart_before ls k l within ok.apart) in
       ap (λ x. admissible x l) is
       ∙ admissible_more m (take k ls) l others

@@ -65,15 +65,15 @@ module _ (m m' : Meaning) (g g' : Register) where
   pub granted_step : (q : Request) (room n : ℕ) (route : Route)
       → Grants m (length (listed g)) g.last q room (legs_of route) → ListedToo g route n g'
       → m' ≡ more m (legs_of route) → Step m g (call.Ask q room) (answer.Granted n route) m' g'
-  granted_step q room n route grants listed-too reserved = record {
-    answers = (listed-too.number, grants);
-    owes = listed-too.items;
-    numbers = listed-too.last;
-    withdrawn = let same = listed-too.withdrawn in omega arith;
-    arrived = let same = listed-too.arrived in omega arith;
+  granted_step q room n route grants listed_too reserved = record {
+    answers = (listed_too.number, grants);
+    owes = listed_too.items;
+    numbers = listed_too.last;
+    withdrawn = let same = listed_too.withdrawn in omega arith;
+    arrived = let same = listed_too.arrived in omega arith;
     agrees = λ w agreed.
         reserved
         ∙ ap (λ x. more x (legs_of route)) agreed
         ∙ over_granted w (listed g) (record { number = n; state = Held; route = route })
-        ∙ ap (over w) (sym listed-too.items);
+        ∙ ap (over w) (sym listed_too.items);
   }

@@ -1,6 +1,6 @@
 -- Runs of digits, and the numbers that they write.
 use Rattle.std.proofs.Common.{◌≡◌, ℕ, zero, suc, ◌+◌, ◌-◌, ◌*◌, ◌<◌, ◌≤◌, List, [], ◌∷◌, ◌++◌, length, get_or, take, drop, sym, refl, ap, ◌∙◌, arith}
-use Rattle.std.specs.List.{AllByRecursion as All}
+use Rattle.std.specs.List.{AllByRecursion}
 use Rattle.std.proofs.lemmas.List.{drop_all, drop_more, length-take-le, take-append-drop, take_more}
 use Rattle.call_lines.specs.Grammar.{Digit, most_digits, most_number, read_on}
 use Rattle.call_lines.specs.Stops.{Passes}
@@ -21,23 +21,23 @@ pub read_on_more :
 read_on_more ds i inside =
     ap (read_on 0) (take_more ds i 0 inside) ∙ read_on_append 0 (take i ds) (get_or ds i 0 ∷ [])
 
-pub digits_take : (n : ℕ) (xs : List ℕ) → All Digit xs → All Digit (take n xs)
+pub digits_take : (n : ℕ) (xs : List ℕ) → AllByRecursion Digit xs → AllByRecursion Digit (take n xs)
 digits_take zero xs all = tt
 digits_take (suc n) [] all = tt
 digits_take (suc n) (x ∷ xs) all = (all.0, digits_take n xs all.1)
 
-pub digits_at : (xs : List ℕ) (i : ℕ) → All Digit xs → i < length xs → Digit (get_or xs i 0)
+pub digits_at : (xs : List ℕ) (i : ℕ) → AllByRecursion Digit xs → i < length xs → Digit (get_or xs i 0)
 digits_at [] i all inside = absurd (omega arith)
 digits_at (x ∷ xs) zero all inside = all.0
 digits_at (x ∷ xs) (suc i) all inside = digits_at xs i all.1 (omega arith)
 
-digits_push : (xs : List ℕ) (x : ℕ) → All Digit xs → Digit x → All Digit (xs ++ (x ∷ []))
+digits_push : (xs : List ℕ) (x : ℕ) → AllByRecursion Digit xs → Digit x → AllByRecursion Digit (xs ++ (x ∷ []))
 digits_push [] x all digit = (digit, tt)
 digits_push (y ∷ ys) x all digit = (all.0, digits_push ys x all.1 digit)
 
 pub digits_more :
     (xs : List ℕ) (i : ℕ)
-    → i < length xs → All Digit (take i xs) → Digit (get_or xs i 0) → All Digit (take (i + 1) xs)
+    → i < length xs → AllByRecursion Digit (take i xs) → Digit (get_or xs i 0) → AllByRecursion Digit (take (i + 1) xs)
 digits_more xs i inside all digit = rw (take_more xs i 0 inside) (digits_push (take i xs) (get_or xs i 0) all digit)
 
 pub no_digit_from : (xs : List ℕ) (i : ℕ) → i < length xs → (Digit (get_or xs i 0) → ⊥) → NoDigit (drop i xs)
@@ -49,7 +49,7 @@ no_digit_past xs i past = rw (drop_all i xs past) tt
 -- one digit passes no limit
 first_fits :
     (digits : List ℕ) (place : ℕ)
-    → All Digit digits
+    → AllByRecursion Digit digits
     → place < length digits
     → (place < most_digits → most_number < read_on 0 (take (place + 1) digits))
     → 0 < place
@@ -60,7 +60,7 @@ first_fits (d ∷ ds) (suc place) all inside passed = omega arith
 -- the first digit that is one too many, or makes the number too large
 pub passes_limit :
     (digits : List ℕ) (place : ℕ)
-    → All Digit digits
+    → AllByRecursion Digit digits
     → place < length digits
     → read_on 0 (take place digits) ≤ most_number
     → place ≤ most_digits
@@ -83,7 +83,7 @@ passes_limit digits place all inside small few passed =
 -- digits in front of two lists that are equal: the longer run begins with the other
 pub run_begins :
     (xs rs ys ss : List ℕ)
-    → All Digit xs → NoDigit ss → xs ++ rs ≡ ys ++ ss → (ts : List ℕ) × (ys ≡ xs ++ ts) × (rs ≡ ts ++ ss)
+    → AllByRecursion Digit xs → NoDigit ss → xs ++ rs ≡ ys ++ ss → (ts : List ℕ) × (ys ≡ xs ++ ts) × (rs ≡ ts ++ ss)
 run_begins [] rs ys ss digits end same = (ys, refl, same)
 run_begins (x ∷ xs) rs [] [] digits end same =
     let never : ◌≡◌ {A = ℕ} 0 1 = cc in absurd (omega arith)
@@ -99,20 +99,20 @@ run_begins (x ∷ xs) rs (y ∷ ys) ss digits end same =
 -- the longest run of digits in front is one run
 pub run_unique :
     (xs rs ys ss : List ℕ)
-    → All Digit xs → All Digit ys → NoDigit rs → NoDigit ss → xs ++ rs ≡ ys ++ ss → (xs ≡ ys) × (rs ≡ ss)
-run_unique [] rs [] ss all-x all-y end-r end-s same = (refl, same)
-run_unique [] [] (y ∷ ys) ss all-x all-y end-r end-s same =
+    → AllByRecursion Digit xs → AllByRecursion Digit ys → NoDigit rs → NoDigit ss → xs ++ rs ≡ ys ++ ss → (xs ≡ ys) × (rs ≡ ss)
+run_unique [] rs [] ss all_x all_y end_r end_s same = (refl, same)
+run_unique [] [] (y ∷ ys) ss all_x all_y end_r end_s same =
     let never : ◌≡◌ {A = ℕ} 0 1 = cc in absurd (omega arith)
-run_unique [] (r ∷ rs) (y ∷ ys) ss all-x all-y end-r end-s same =
-    let here : y ≡ r = cc in absurd (end-r (rw here at all-y.0))
-run_unique (x ∷ xs) rs [] [] all-x all-y end-r end-s same =
+run_unique [] (r ∷ rs) (y ∷ ys) ss all_x all_y end_r end_s same =
+    let here : y ≡ r = cc in absurd (end_r (rw here at all_y.0))
+run_unique (x ∷ xs) rs [] [] all_x all_y end_r end_s same =
     let never : ◌≡◌ {A = ℕ} 0 1 = cc in absurd (omega arith)
-run_unique (x ∷ xs) rs [] (s ∷ ss) all-x all-y end-r end-s same =
-    let here : x ≡ s = cc in absurd (end-s (rw here at all-x.0))
-run_unique (x ∷ xs) rs (y ∷ ys) ss all-x all-y end-r end-s same =
+run_unique (x ∷ xs) rs [] (s ∷ ss) all_x all_y end_r end_s same =
+    let here : x ≡ s = cc in absurd (end_s (rw here at all_x.0))
+run_unique (x ∷ xs) rs (y ∷ ys) ss all_x all_y end_r end_s same =
     let here : x ≡ y = cc in
     let behind : xs ++ rs ≡ ys ++ ss = cc in
-    let rest = run_unique xs rs ys ss all-x.1 all-y.1 end-r end-s behind in
+    let rest = run_unique xs rs ys ss all_x.1 all_y.1 end_r end_s behind in
     let front : x ∷ xs ≡ y ∷ ys = cc (rest.0, here) in
     (front, rest.1)
 

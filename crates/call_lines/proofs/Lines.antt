@@ -1,6 +1,6 @@
 -- Whole lines: one call at most, one column at most, and the bytes that decide.
 use Rattle.std.proofs.Common.{◌≡◌, ℕ, suc, ◌-◌, ◌<◌, ◌≤◌, cond, eqb, List, [], ◌∷◌, ◌++◌, length, get_or, take, drop, Ok, Err, Result, sym, refl, ap, ◌∙◌, subst, ⊎_elim, arith}
-use Rattle.std.specs.List.{AllByRecursion as All}
+use Rattle.std.specs.List.{AllByRecursion}
 use Rattle.std.proofs.lemmas.List.{append_assoc, length-append, length-take, length-take-le, take_all, take-append-drop, take-take}
 use Rattle.std.proofs.lemmas.Bool.{cases_lt, cases_order}
 use Rattle.call_lines.specs.Grammar.{Digit, Spaced, Spells, letter, numbers}
@@ -29,11 +29,11 @@ rebuilt_is call.List = refl
 pub spells_unique : (line : List ℕ) (c d : LineCall) → Spells line c → Spells line d → c ≡ d
 spells_unique line c d one other =
     let same : letter c ∷ one.0 ≡ letter d ∷ other.0 = sym one.1 ∙ other.1 in
-    let same-letter : letter c ≡ letter d = cc (same) in
+    let same_letter : letter c ≡ letter d = cc (same) in
     let same_rest : one.0 ≡ other.0 = cc (same) in
     let same_numbers : numbers c ≡ numbers d =
     spaced_unique (numbers c) (numbers d) other.0 (subst (Spaced (numbers c)) same_rest one.2) other.2 in
-    sym (rebuilt_is c) ∙ (λ j. rebuilt (same-letter j) (same_numbers j)) ∙ rebuilt_is d
+    sym (rebuilt_is c) ∙ (λ j. rebuilt (same_letter j) (same_numbers j)) ∙ rebuilt_is d
 
 -- the calls of a letter are those with so many numbers
 pub record Counts (l count : ℕ) : Type 0 where
@@ -78,11 +78,11 @@ list_counts call.List same = refl
 -- a letter that is neither R nor L
 one_counts :
     (l : ℕ) → (82 ≡ l → ⊥) → (76 ≡ l → ⊥) → (c : LineCall) → letter c ≡ l → length (numbers c) ≡ 1
-one_counts l not-r not-l (call.Request origin destination slot) same = absurd (not-r same)
-one_counts l not-r not-l (call.Confirm number) same = refl
-one_counts l not-r not-l (call.Withdraw number) same = refl
-one_counts l not-r not-l (call.Arrive number) same = refl
-one_counts l not-r not-l call.List same = absurd (not-l same)
+one_counts l not_r not_l (call.Request origin destination slot) same = absurd (not_r same)
+one_counts l not_r not_l (call.Confirm number) same = refl
+one_counts l not_r not_l (call.Withdraw number) same = refl
+one_counts l not_r not_l (call.Arrive number) same = refl
+one_counts l not_r not_l call.List same = absurd (not_l same)
 
 pub of_request : Counts 82 3
 of_request = record { makes = makes_request; counts = request_counts }
@@ -127,9 +127,9 @@ spaced_at_letter :
     → Counts l count → Spells (l ∷ bytes) c → (length (numbers c) ≡ count) × Spaced (numbers c) bytes
 spaced_at_letter l count bytes c of spells =
     let same = spells.1 in
-    let same-letter : letter c ≡ l = cc (same) in
+    let same_letter : letter c ≡ l = cc (same) in
     let same_rest : spells.0 ≡ bytes = cc (same) in
-    (of.counts c same-letter, subst (Spaced (numbers c)) same_rest spells.2)
+    (of.counts c same_letter, subst (Spaced (numbers c)) same_rest spells.2)
 
 breaks_letter :
     (l count : ℕ) (rest : List ℕ) (column : ℕ)
@@ -198,15 +198,15 @@ pub no_letter :
     (byte : ℕ)
     → (byte ≡ 82 → ⊥) → (byte ≡ 67 → ⊥) → (byte ≡ 87 → ⊥) → (byte ≡ 65 → ⊥) → (byte ≡ 76 → ⊥)
     → (c : LineCall) → letter c ≡ byte → ⊥
-no_letter byte not-r not-c not-w not_a not-l (call.Request origin destination slot) same = not-r (sym same)
-no_letter byte not-r not-c not-w not_a not-l (call.Confirm number) same = not-c (sym same)
-no_letter byte not-r not-c not-w not_a not-l (call.Withdraw number) same = not-w (sym same)
-no_letter byte not-r not-c not-w not_a not-l (call.Arrive number) same = not_a (sym same)
-no_letter byte not-r not-c not-w not_a not-l call.List same = not-l (sym same)
+no_letter byte not_r not_c not_w not_a not_l (call.Request origin destination slot) same = not_r (sym same)
+no_letter byte not_r not_c not_w not_a not_l (call.Confirm number) same = not_c (sym same)
+no_letter byte not_r not_c not_w not_a not_l (call.Withdraw number) same = not_w (sym same)
+no_letter byte not_r not_c not_w not_a not_l (call.Arrive number) same = not_a (sym same)
+no_letter byte not_r not_c not_w not_a not_l call.List same = not_l (sym same)
 
 breaks_run :
     (digits rest : List ℕ)
-    → All Digit digits → 0 < length digits → (column : ℕ) → column ≡ 1 → Breaks (digits ++ rest) column
+    → AllByRecursion Digit digits → 0 < length digits → (column : ℕ) → column ≡ 1 → Breaks (digits ++ rest) column
 breaks_run [] rest all some column first = absurd (omega arith)
 breaks_run (d ∷ ds) rest all some column first =
     let digit = all.0 in

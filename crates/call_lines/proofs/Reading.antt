@@ -1,6 +1,6 @@
 -- What the first word of a rest says about the numbers that are to come.
 use Rattle.std.proofs.Common.{◌≡◌, ℕ, suc, ◌+◌, ◌<◌, ◌≤◌, List, [], ◌∷◌, ◌++◌, length, drop, sym, refl, ap, ◌∙◌, subst, arith}
-use Rattle.std.specs.List.{AllByRecursion as All}
+use Rattle.std.specs.List.{AllByRecursion}
 use Rattle.std.proofs.lemmas.List.{drop_at, length-append}
 use Rattle.call_lines.specs.Grammar.{Digit, Number, Spaced, space}
 use Rattle.call_lines.specs.Stops.{Passes, SpacedRest, Stops, StopsAt, Taken}
@@ -34,7 +34,7 @@ no_space bytes rest byte start column joined other here more =
 
 no_space_run :
     (digits rest : List ℕ) (start column : ℕ)
-    → All Digit digits → 0 < length digits → column ≡ start
+    → AllByRecursion Digit digits → 0 < length digits → column ≡ start
     → (more : ℕ) → StopsAt (suc more) (digits ++ rest) start column
 no_space_run [] rest start column all some here more = absurd (omega arith)
 no_space_run (d ∷ ds) rest start column all some here more =

@@ -22,9 +22,9 @@ pub next_unique :
     (w r v s : List ℕ) (n : ℕ) (ns : List ℕ)
     → (m : ℕ) → Number w m → NoDigit r → Number v n → Spaced ns s
     → space ∷ (w ++ r) ≡ space ∷ (v ++ s) → (w ≡ v) × (r ≡ s)
-next_unique w r v s n ns m number-w end number-v spaced same =
+next_unique w r v s n ns m number_w end number_v spaced same =
     let tails : w ++ r ≡ v ++ s = cc in
-    run_unique w r v s number-w.digits number-v.digits end (spaced_no_digit ns s spaced) tails
+    run_unique w r v s number_w.digits number_v.digits end (spaced_no_digit ns s spaced) tails
 
 pub spaced_unique : (ns ms bytes : List ℕ) → Spaced ns bytes → Spaced ms bytes → ns ≡ ms
 spaced_unique [] [] bytes one other = refl

@@ -1,6 +1,6 @@
 -- Where spaced numbers break the form.
 use Rattle.std.proofs.Common.{◌≡◌, ℕ, suc, ◌+◌, ◌<◌, List, [], ◌∷◌, ◌++◌, length, take, drop, sym, refl, ap, ◌∙◌, subst, zero-add, arith}
-use Rattle.std.specs.List.{AllByRecursion as All}
+use Rattle.std.specs.List.{AllByRecursion}
 use Rattle.std.proofs.lemmas.List.{append_assoc, append-nil, length-append, length-take-le, take_all, take-append-drop, take-append-le}
 use Rattle.call_lines.specs.Grammar.{Digit, Number, Spaced, read_on, space}
 use Rattle.call_lines.specs.Stops.{GoesOn, Passes, Stops}
@@ -110,7 +110,7 @@ stops_without_digit count bytes end =
 -- a digit that passes a limit
 pub stops_in_digits :
     (count : ℕ) (digits rest : List ℕ) (place : ℕ)
-    → All Digit digits → Passes digits place → Stops (suc count) (space ∷ (digits ++ rest)) (suc place)
+    → AllByRecursion Digit digits → Passes digits place → Stops (suc count) (space ∷ (digits ++ rest)) (suc place)
 stops_in_digits count digits rest place all passes =
     let inside = passes.within in
     let front : take place (digits ++ rest) ≡ take place digits = take-append-le place digits rest (omega arith) in

@@ -1,6 +1,6 @@
 -- Which bytes spell which call.
 use Rattle.std.specs.Prelude.{◌≡◌, ℕ, ◌+◌, ◌-◌, ◌*◌, ◌<◌, ◌≤◌, List, [], ◌∷◌, ◌++◌, length}
-use Rattle.std.specs.List.{AllByRecursion as All}
+use Rattle.std.specs.List.{AllByRecursion}
 use Rattle.call_lines.specs.declared.calls.LineCall.{LineCall}
 use Rattle.call_lines.specs.declared.calls.LineCall.TheVariants as call
 
@@ -24,7 +24,7 @@ read_on n (digit ∷ digits) = read_on (n * 10 + (digit - 48)) digits
 
 -- one to five digits write a number of 16 bits
 pub record Number (word : List ℕ) (n : ℕ) : Type 0 where
-  pub digits : All Digit word
+  pub digits : AllByRecursion Digit word
   pub some : 0 < length word
   pub few : length word ≤ most_digits
   pub value : read_on 0 word ≡ n

@@ -1,6 +1,6 @@
 -- What follows of the grammar alone, and the shortest spelling of a call.
 use Rattle.std.specs.Prelude.{◌≡◌, ℕ, ◌<◌, ◌≤◌, List, ◌∷◌, length, decimal}
-use Rattle.std.specs.List.{flat_map, AllByRecursion as All}
+use Rattle.std.specs.List.{flat_map, AllByRecursion}
 use Rattle.call_lines.specs.Grammar.{Spells, letter, most_number, numbers, space}
 use Rattle.call_lines.specs.Parsing.{deciding}
 use Rattle.call_lines.specs.declared.calls.LineCall.{LineCall}
@@ -18,4 +18,4 @@ abbrev pub spelling : LineCall → List ℕ
 spelling c = letter c ∷ flat_map (λ n. space ∷ decimal n) (numbers c)
 
 abbrev pub SpellingSpells : Type 0
-SpellingSpells = (c : LineCall) → All (λ n. n ≤ most_number) (numbers c) → Spells (spelling c) c
+SpellingSpells = (c : LineCall) → AllByRecursion (λ n. n ≤ most_number) (numbers c) → Spells (spelling c) c

@@ -1,6 +1,6 @@
 -- The word that the rest of a line begins with.
 use Rattle.std.specs.Prelude.{◌≡◌, ℕ, ◌+◌, ◌^◌, ◌<◌, ◌≤◌, List, [], ◌∷◌, ◌++◌, length, take, drop}
-use Rattle.std.specs.List.{AllByRecursion as All}
+use Rattle.std.specs.List.{AllByRecursion}
 use Rattle.call_lines.specs.Grammar.{Digit}
 use Rattle.call_lines.specs.declared.words.Rest.{Rest}
 use Rattle.call_lines.specs.declared.words.Word.{Word}
@@ -18,12 +18,12 @@ NoDigit (byte ∷ rest) = Digit byte → ⊥
 -- so many digits come first, and no digit behind them
 pub record Front (bytes : List ℕ) (count : ℕ) : Type 0 where
   pub within : count ≤ length bytes
-  pub all : All Digit (take count bytes)
+  pub all : AllByRecursion Digit (take count bytes)
   pub whole : NoDigit (drop count bytes)
 
 -- the longest run of digits in front
 pub record Run (bytes digits : List ℕ) : Type 0 where
-  pub all : All Digit digits
+  pub all : AllByRecursion Digit digits
   pub some : 0 < length digits
   pub rest : List ℕ
   pub joined : bytes ≡ digits ++ rest

@@ -1,6 +1,6 @@
 // The call that a line spells.
 ghost use Rattle.std.specs.Prelude.{◌≡◌, ◌+◌, ◌^◌, ◌<◌, ◌≤◌, length, drop};
-ghost use Rattle.std.specs.List.{AllByRecursion as All};
+ghost use Rattle.std.specs.List.{AllByRecursion};
 ghost use Rattle.call_lines.specs.Grammar.{Digit};
 ghost use Rattle.call_lines.specs.Parsing.{Answers};
 ghost use Rattle.call_lines.specs.Stops.{Ends, One, Spaces, Takes, Three, Valued};
@@ -54,7 +54,7 @@ fn behind<'l>(rest: Rest<'l>, count: usize) -> Rest<'l>
 
 // The number that digits write; or the column of the digit that is one too many or makes the number too large.
 fn value_of(digits: &[u8], column: usize) -> Result<u16, usize>
-    requires digits { All Digit digits.now }
+    requires digits { AllByRecursion Digit digits.now }
     requires some { 0 < length digits.now }
     requires fits { column + length digits.now ≤ 2 ^ 63 }
     ensures { Valued digits.now column result }

@@ -2,4 +2,4 @@ pub mod Told
 pub mod Requested
 pub mod Timings
 pub mod Events
-pub mod EventOrderedLemmas
+pub mod EventOrder

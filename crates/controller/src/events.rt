@@ -1,7 +1,7 @@
 // The events of a shift: departures and ends of bookings.
 ghost use Rattle.controller.specs.Events.{event_before};
 ghost use Rattle.queue.proofs.Orders.{numbers, pairs, by_key};
-ghost use Rattle.controller.specs.EventOrderedLemmas.{key, event_from_key};
+ghost use Rattle.controller.specs.EventOrder.{key, event_from_key};
 
 use queue::order::Ordered;
 

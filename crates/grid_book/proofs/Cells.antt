@@ -36,9 +36,9 @@ module _ (s : Shown) (kept : Bool) (cells : List ℕ) (room : kept ≡ true → 
   pub row_length : (i : ℕ) → kept ≡ true → i < length s.roads → length (row i) ≡ s.horizon
   row_length i keeps known =
       let h = s.horizon in
-      let room-here = room keeps in
+      let room_here = room keeps in
       let next = row_within h (length s.roads) i known in
-      length-take h (drop (i * h) cells) ∙ omega (arith, length-drop (i * h) cells, room-here, next)
+      length-take h (drop (i * h) cells) ∙ omega (arith, length-drop (i * h) cells, room_here, next)
 
   pub row_stands : (i : ℕ) → kept ≡ true → i < length s.roads
       → (e : ℕ) → (grid_meaning s kept cells).standing i e ≡ get_or (row i) e 0

@@ -1,6 +1,6 @@
 -- Loads stay within the critical counts.
 use Rattle.std.proofs.Common.{◌≡◌, ℕ, true, ◌≢◌, List, [], ◌∷◌, Some, None, Option, sym, refl, ◌∙◌, subst}
-use Rattle.std.specs.List.{AllByRecursion as All}
+use Rattle.std.specs.List.{AllByRecursion}
 use Rattle.book.specs.Loads.{Within, admissible}
 use Rattle.book.specs.Meaning.{Meaning, Sound, plus}
 use Rattle.book.specs.declared.legs.Leg.{Leg}
@@ -21,11 +21,11 @@ use Rattle.bookings.proofs.Owing.{over_granted, over_moved, over_without}
 -- ---- legs that are reserved and freed
 
 abbrev Admitted : Meaning → List Leg → Type 0
-Admitted m ls = All (λ l. admissible m l ≡ true) ls
+Admitted m ls = AllByRecursion (λ l. admissible m l ≡ true) ls
 
 -- a leg leaves those of other segments admissible
 admitted_beside : (m : Meaning) (l : Leg) (ls : List Leg) → Admitted m ls
-    → All (λ i. i ≢ l.segment) (segments_of ls) → Admitted (plus m l) ls
+    → AllByRecursion (λ i. i ≢ l.segment) (segments_of ls) → Admitted (plus m l) ls
 admitted_beside m l [] admitted apart = tt
 admitted_beside m l (k ∷ ls) admitted apart = (
   others_stay_admissible m l k (λ same. apart.0 (sym same)) ∙ admitted.0,

@@ -1,6 +1,6 @@
 -- The numbers of the bookings owed: distinct, and none above the last one given.
 use Rattle.std.proofs.Common.{◌≡◌, ℕ, ◌+◌, ◌≤◌, true, false, eqb, ◌≢◌, List, [], ◌∷◌, ◌++◌, Some, None, Option, ⊎_elim, arith}
-use Rattle.std.specs.List.{AllByRecursion as All}
+use Rattle.std.specs.List.{AllByRecursion}
 use Rattle.std.proofs.ByRecursion.{All-push, All-weaker}
 use Rattle.std.proofs.lemmas.Bool.{cases_Bool}
 use Rattle.book.specs.Meaning.{Meaning}
@@ -15,8 +15,8 @@ use Rattle.bookings.specs.declared.states.State.{State}
 use Rattle.histories.specs.Tokens.{Distinct, Numbered}
 
 -- what holds of each number holds of each number left
-all_moved : (P : ℕ → Type 0) (n : ℕ) (s : State) (bs : List Booking) → All (λ b. P b.number) bs
-    → All (λ b. P b.number) (moved n s bs)
+all_moved : (P : ℕ → Type 0) (n : ℕ) (s : State) (bs : List Booking) → AllByRecursion (λ b. P b.number) bs
+    → AllByRecursion (λ b. P b.number) (moved n s bs)
 all_moved P n s [] all = tt
 all_moved P n s (b ∷ bs) all =
     ⊎_elim
@@ -24,8 +24,8 @@ all_moved P n s (b ∷ bs) all =
     (λ (f : eqb b.number n ≡ false). simp f (all.0, all_moved P n s bs all.1))
     (cases_Bool (eqb b.number n))
 
-all_without : (P : ℕ → Type 0) (n : ℕ) (bs : List Booking) → All (λ b. P b.number) bs
-    → All (λ b. P b.number) (without n bs)
+all_without : (P : ℕ → Type 0) (n : ℕ) (bs : List Booking) → AllByRecursion (λ b. P b.number) bs
+    → AllByRecursion (λ b. P b.number) (without n bs)
 all_without P n [] all = tt
 all_without P n (b ∷ bs) all =
     ⊎_elim
@@ -51,7 +51,7 @@ distinct_without n (b ∷ bs) distinct =
     simp f (all_without (λ k. k ≢ b.number) n bs distinct.0, distinct_without n bs distinct.1))
     (cases_Bool (eqb b.number n))
 
-distinct_push : (k : ℕ) (bs : List Booking) (b : Booking) → b.number ≡ k + 1 → All (λ c. c.number ≤ k) bs
+distinct_push : (k : ℕ) (bs : List Booking) (b : Booking) → b.number ≡ k + 1 → AllByRecursion (λ c. c.number ≤ k) bs
     → Distinct bs → Distinct (bs ++ b ∷ [])
 distinct_push k [] b is given distinct = (tt, tt)
 distinct_push k (c ∷ bs) b is given distinct = (

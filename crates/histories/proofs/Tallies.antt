@@ -1,6 +1,6 @@
 -- The tokens that are out, counted against the bookings that stand.
 use Rattle.std.proofs.Common.{◌≡◌, ℕ, ◌+◌, ◌<◌, true, false, cond, ◌&&◌, eqb, ◌≢◌, List, [], ◌∷◌, ◌++◌, Some, None, Option, sym, refl, ap, ◌∙◌, subst, ⊎_elim, arith}
-use Rattle.std.specs.List.{AllByRecursion as All}
+use Rattle.std.specs.List.{AllByRecursion}
 use Rattle.std.proofs.lemmas.Bool.{cases_Bool, eqb-true, ne_eqb}
 use Rattle.bookings.specs.Owed.{changed, moved, stands, without}
 use Rattle.bookings.specs.States.{code, leads_to, needed}
@@ -84,7 +84,7 @@ tally_none s n (b ∷ bs) none =
 other_number : (s r : State) (n k : ℕ) → eqb k n ≡ false → hit s n r k ≡ 0
 other_number s r n k other = grind (arith, other)
 
-tally_absent : (s : State) (n : ℕ) (bs : List Booking) → All (λ b. b.number ≢ n) bs → tally s n bs ≡ 0
+tally_absent : (s : State) (n : ℕ) (bs : List Booking) → AllByRecursion (λ b. b.number ≢ n) bs → tally s n bs ≡ 0
 tally_absent s n [] absent = refl
 tally_absent s n (b ∷ bs) absent =
     omega (
@@ -104,7 +104,7 @@ tally_distinct s n (b ∷ bs) distinct none =
     omega (
       arith,
       zero,
-      tally_absent s n bs (subst (λ k. All (λ c. c.number ≢ k) bs) (eqb-true b.number n t) distinct.0),
+      tally_absent s n bs (subst (λ k. AllByRecursion (λ c. c.number ≢ k) bs) (eqb-true b.number n t) distinct.0),
     ))
     (λ (f : eqb b.number n ≡ false).
     let rest : stands n s bs ≡ false = simp f at none in

@@ -1,6 +1,6 @@
 -- The numbers of bookings, and the tokens that are out for them.
 use Rattle.std.specs.Prelude.{◌≡◌, ℕ, ◌+◌, ◌≤◌, cond, ◌&&◌, ◌≢◌, List, [], ◌∷◌, ◌==◌}
-use Rattle.std.specs.List.{AllByRecursion as All}
+use Rattle.std.specs.List.{AllByRecursion}
 use Rattle.bookings.specs.States.{code}
 use Rattle.bookings.specs.declared.states.Booking.{Booking}
 use Rattle.bookings.specs.declared.states.State.{State}
@@ -11,11 +11,11 @@ use Rattle.bookings.specs.declared.states.State.TheVariants.{Held, UnderWay}
 -- no two bookings have one number
 abbrev pub Distinct : List Booking → Type 0
 Distinct [] = Unit {0}
-Distinct (b ∷ bs) = All (λ c. c.number ≢ b.number) bs × Distinct bs
+Distinct (b ∷ bs) = AllByRecursion (λ c. c.number ≢ b.number) bs × Distinct bs
 
 -- and none has one above k
 pub record Numbered (k : ℕ) (bs : List Booking) : Type 0 where
-  pub given : All (λ b. b.number ≤ k) bs
+  pub given : AllByRecursion (λ b. b.number ≤ k) bs
   pub distinct : Distinct bs
 
 -- ---- tokens

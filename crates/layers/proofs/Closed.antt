@@ -50,7 +50,7 @@ module _ (held : ℕ) (ks : List Closure) (m : Meaning) (i : ℕ) where
   none_below first slot next k later before =
       elim (cases_Bool (admissible (held_back held m) (at k))) [
         | inl admitted ↦ absurd (omega (arith, next.first k later admitted))
-        | inr not-admitted ↦ not_below k not-admitted
+        | inr not_admitted ↦ not_below k not_admitted
       ]
 
   while_closed : (e slot : ℕ) → ClosedUntil (closing ks m.shown i) e (Some slot) → NoneBetween over i e slot

@@ -9,5 +9,5 @@ kept_closures l = take (min l.count most_closures) l.closures
 
 -- the entries from e up to the one before a later slot are closed; none where e is open
 abbrev pub ClosedUntil : (ℕ → Bool) → ℕ → Option ℕ → Type 0
-ClosedUntil closed e (Some open-again) = (e < open-again) × ((k : ℕ) → e ≤ k → k < open-again → closed k ≡ true)
+ClosedUntil closed e (Some open_again) = (e < open_again) × ((k : ℕ) → e ≤ k → k < open_again → closed k ≡ true)
 ClosedUntil closed e None = closed e ≡ false

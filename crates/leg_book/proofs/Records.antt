@@ -110,5 +110,5 @@ take_set_within (suc n) (x ∷ xs) (suc k) y within = ap (λ ys. x ∷ ys) (take
 pub count_none : (rs : List LegRecord) → ((k : ℕ) → (get_or rs k no_record).used ≡ false) → (i e : ℕ) → count_at rs i e ≡ 0
 count_none [] none i e = refl
 count_none (r ∷ rs) none i e =
-    let not-this = cond-false {A = ℕ} (is_leg i e r) 1 0 (and_left (is_of i r) _ (and_left r.used _ (none 0))) in
-    omega (arith, sum_by-cons (λ x. cond (is_leg i e x) 1 0) r rs, not-this, count_none rs (λ k. none (suc k)) i e)
+    let not_this = cond-false {A = ℕ} (is_leg i e r) 1 0 (and_left (is_of i r) _ (and_left r.used _ (none 0))) in
+    omega (arith, sum_by-cons (λ x. cond (is_leg i e x) 1 0) r rs, not_this, count_none rs (λ k. none (suc k)) i e)

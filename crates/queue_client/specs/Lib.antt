@@ -1,3 +1,3 @@
 pub mod Kinds
 pub mod Sort
-pub mod EventOrderedLemmas
+pub mod EventOrder

@@ -1,7 +1,7 @@
 // Shift events.
 ghost use Rattle.queue_client.specs.Kinds.{event_before};
 ghost use Rattle.queue.proofs.Orders.{numbers, pairs, by_key};
-ghost use Rattle.queue_client.specs.EventOrderedLemmas.{key, event_from_key};
+ghost use Rattle.queue_client.specs.EventOrder.{key, event_from_key};
 
 use queue::order::Ordered;
 

@@ -1,7 +1,7 @@
 -- After a grant the controller tells the route that it granted.
 use Rattle.std.proofs.Common.{◌≡◌, ℕ, ◌+◌, ◌-◌, ◌<◌, ◌≤◌, min, List, [], ◌∷◌, ◌++◌, length, take, Some, None, Option, sym, refl, ap, ◌∙◌, subst, subst₂, arith, length-take}
 use Rattle.std.specs.Option.{option_map}
-use Rattle.std.specs.List.{AllByRecursion as All}
+use Rattle.std.specs.List.{AllByRecursion}
 use Rattle.std.proofs.lemmas.Bool.{cond-false, cond-true, eq-eqb, ne_eqb}
 use Rattle.book.specs.Meaning.{Meaning}
 use Rattle.search.specs.declared.route.Route.{Route}
@@ -19,7 +19,7 @@ use Rattle.histories.specs.Tokens.{Matched, Numbered, hit}
 use Rattle.histories.proofs.Making.{made_granted}
 
 -- a booking with a number above all others is the first with it
-first_pushed : (k : ℕ) (bs : List Booking) (b : Booking) → All (λ c. c.number ≤ k) bs → k < b.number
+first_pushed : (k : ℕ) (bs : List Booking) (b : Booking) → AllByRecursion (λ c. c.number ≤ k) bs → k < b.number
     → first_with b.number (bs ++ b ∷ []) ≡ Some b
 first_pushed k [] b given above = cond-true _ _ _ (eq-eqb b.number b.number refl)
 first_pushed k (c ∷ bs) b given above =

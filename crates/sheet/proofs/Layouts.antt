@@ -2,7 +2,7 @@
 use Rattle.std.proofs.Common.{◌≡◌, ℕ, ◌≤◌, Bool, true, List, [], ◌∷◌, length, get_or, refl, ap, arith}
 use Rattle.std.proofs.lemmas.Bool.{and_parts}
 use Rattle.std.proofs.lemmas.Bool.Decides.{nat_tests}
-use Rattle.std.specs.List.{AllByRecursion as All}
+use Rattle.std.specs.List.{AllByRecursion}
 use Rattle.plan.specs.Ranges.{closure_rules, closures_fit, segment_rules, segments_fit, settings_fit, settings_rules}
 use Rattle.plan.specs.Rules.{every, keeps}
 use Rattle.plan.specs.declared.parts.Closure.{Closure}
@@ -40,7 +40,7 @@ pub closure_faithful : Faithful closure_layout
 closure_faithful = record { positive = omega arith; valued = λ k. refl; remade = λ k. refl; revalued = three }
 
 all_from_every : {A : Type 0} (test : A → Bool) (P : A → Type 0) → ((a : A) → test a ≡ true → P a)
-    → (xs : List A) → every test xs ≡ true → All P xs
+    → (xs : List A) → every test xs ≡ true → AllByRecursion P xs
 all_from_every test P step [] passed = tt
 all_from_every test P step (x ∷ xs) passed =
     let parts = and_parts (test x) (every test xs) passed in
@@ -72,7 +72,7 @@ segment_narrow s few g fit = (
 )
 
 pub segments_narrow : (s : Settings) (gs : List Segment) → settings_fit s ≡ true → segments_fit s gs ≡ true
-    → All (λ g. Narrow segment_layout.widths (segment_layout.values g)) gs
+    → AllByRecursion (λ g. Narrow segment_layout.widths (segment_layout.values g)) gs
 unfolding segments_fit
 segments_narrow s gs set fit =
     all_from_every (λ g. keeps (segment_rules s g)) _ (segment_narrow s (junctions_few s set)) gs fit
@@ -83,7 +83,7 @@ unfolding closure_rules
 closure_narrow s n few known k fit = (grind (arith, nat_tests), (grind (arith, nat_tests), (grind (arith, nat_tests), tt)))
 
 pub closures_narrow : (s : Settings) (n : ℕ) (ks : List Closure) → settings_fit s ≡ true → n ≤ 128
-    → closures_fit s n ks ≡ true → All (λ k. Narrow closure_layout.widths (closure_layout.values k)) ks
+    → closures_fit s n ks ≡ true → AllByRecursion (λ k. Narrow closure_layout.widths (closure_layout.values k)) ks
 unfolding closures_fit
 closures_narrow s n ks set known fit =
     all_from_every (λ k. keeps (closure_rules s n k)) _ (closure_narrow s n (horizon_few s set) known) ks fit

@@ -43,10 +43,10 @@ unfolding over
 over_over memory place first second within =
     let start = take place memory in
     let end = drop (place + length first) memory in
-    let start-long : length start ≡ place = length-take-le place memory (omega arith) in
+    let start_long : length start ≡ place = length-take-le place memory (omega arith) in
     let regrouped : start ++ (first ++ end) ≡ (start ++ first) ++ end = sym (append_assoc start first end) in
     let both_long : length (start ++ first) ≡ place + length first =
-    length-append start first ∙ ap (λ n. n + length first) start-long in
+    length-append start first ∙ ap (λ n. n + length first) start_long in
     let front : take (place + length first) (start ++ (first ++ end)) ≡ start ++ first =
     ap (take (place + length first)) regrouped ∙ take_at (start ++ first) end (place + length first) both_long in
     let back : drop (place + length first + length second) (start ++ (first ++ end))
@@ -116,7 +116,7 @@ pub laying_next : {X : Type 0} {bytes_of : X → List ℕ} {xs : List X} {before
     → Laying bytes_of xs before start k memory place
     → {after : List ℕ} {behind : ℕ} → after ≡ over memory place (bytes_of (get_or xs k d))
     → behind ≡ place + length (bytes_of (get_or xs k d)) → Laying bytes_of xs before start (k + 1) after behind
-laying_next {bytes_of = bytes_of} {xs = xs} {before = before} {start = start} {k = k} d within room laying put place-behind =
+laying_next {bytes_of = bytes_of} {xs = xs} {before = before} {start = start} {k = k} d within room laying put place_behind =
     let first = flat_map bytes_of (take k xs) in
     let second = bytes_of (get_or xs k d) in
     record {

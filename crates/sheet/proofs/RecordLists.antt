@@ -4,7 +4,7 @@ use native.Mathlib.Nat.{add-div_left, div-eq_of_lt}
 use Rattle.std.proofs.ByRecursion.{All-drop, All-take}
 use Rattle.std.proofs.lemmas.List.{append-nil, drop_at, length-append, length-drop, length-take-le, nil_from_length, take_all, take-append-drop, take_at}
 use Rattle.std.specs.Int.Digits.{AllBelowBase}
-use Rattle.std.specs.List.{AllByRecursion as All}
+use Rattle.std.specs.List.{AllByRecursion}
 use Rattle.sheet.specs.Records.{Layout, packed, rows, rows_by, size, told, told_all, unpacked, written, written_all}
 use Rattle.sheet.proofs.Packing.{Narrow, length_packed, length_unpacked, packed_unpacked, unpacked_packed}
 
@@ -55,7 +55,7 @@ module _ {A : Type 0} (layout : Layout A) (faithful : Faithful layout) where
       ∙ add_comm (size layout.widths) (size layout.widths * length items)
       ∙ sym (mul-suc (size layout.widths) (length items))
 
-  pub told_all_written : (items : List A) → All (λ a. Narrow layout.widths (layout.values a)) items
+  pub told_all_written : (items : List A) → AllByRecursion (λ a. Narrow layout.widths (layout.values a)) items
       → told_all layout (written_all layout items) ≡ items
   told_all_written [] narrow = ap (map (told layout)) (rows_none (size layout.widths) [] faithful.positive)
   told_all_written (a ∷ items) narrow =
@@ -77,15 +77,15 @@ module _ {A : Type 0} (layout : Layout A) (faithful : Faithful layout) where
       let first = take width bytes in
       let rest = drop width bytes in
       let more : length bytes ≡ width * count + width = long ∙ mul-suc width count in
-      let first-long : length first ≡ width = length-take-le width bytes (omega arith) in
-      let rest-long : length rest ≡ width * count = length-drop width bytes ∙ omega arith in
+      let first_long : length first ≡ width = length-take-le width bytes (omega arith) in
+      let rest_long : length rest ≡ width * count = length-drop width bytes ∙ omega arith in
       let split = take-append-drop width bytes in
       let cut : rows width bytes ≡ first ∷ rows width rest =
-      ap (rows width) (sym split) ∙ rows_more width first rest faithful.positive first-long in
+      ap (rows width) (sym split) ∙ rows_more width first rest faithful.positive first_long in
       ap (λ bs. written_all layout (map (told layout) bs)) cut
       ∙ ap₂ ◌++◌
-      (written_told first first-long (All-take (λ b. b < 256) width bytes under))
-      (written_all_told count rest rest-long (All-drop (λ b. b < 256) width bytes under))
+      (written_told first first_long (All-take (λ b. b < 256) width bytes under))
+      (written_all_told count rest rest_long (All-drop (λ b. b < 256) width bytes under))
       ∙ split
 
   -- the first record and the rest

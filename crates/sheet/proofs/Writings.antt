@@ -33,26 +33,26 @@ module _ (c : Content) where
   whole =
       append_assoc (head ++ settings) segments closures ∙ append_assoc head settings (segments ++ closures)
 
-  module _ (memory after-head after-settings after-segments after : List ℕ)
-      (head-put : after-head ≡ over memory 0 (packed head_widths (head_values (length c.segments) (length c.closures))))
-      (settings-put : after-settings ≡ over after-head 26 (written settings_layout c.settings))
-      (segments-put : after-segments ≡ over after-settings 33 (written_all segment_layout c.segments))
-      (closures-put : after ≡ over after-segments (33 + length (written_all segment_layout c.segments))
+  module _ (memory after_head after_settings after_segments after : List ℕ)
+      (head_put : after_head ≡ over memory 0 (packed head_widths (head_values (length c.segments) (length c.closures))))
+      (settings_put : after_settings ≡ over after_head 26 (written settings_layout c.settings))
+      (segments_put : after_segments ≡ over after_settings 33 (written_all segment_layout c.segments))
+      (closures_put : after ≡ over after_segments (33 + length (written_all segment_layout c.segments))
       (written_all closure_layout c.closures))
       (room : 33 + length (written_all segment_layout c.segments) + length (written_all closure_layout c.closures)
       ≤ length memory) where
     sheet_put : after ≡ over memory 0 (encode c)
     unfolding head settings segments closures
     sheet_put =
-        let first : after-settings ≡ over memory 0 (head ++ settings) =
-        settings-put ∙ ap (λ m. over m 26 settings) head-put ∙ over_over memory 0 head settings (omega arith) in
-        let second : after-segments ≡ over memory 0 ((head ++ settings) ++ segments) =
-        segments-put ∙ ap (λ m. over m 33 segments) first
+        let first : after_settings ≡ over memory 0 (head ++ settings) =
+        settings_put ∙ ap (λ m. over m 26 settings) head_put ∙ over_over memory 0 head settings (omega arith) in
+        let second : after_segments ≡ over memory 0 ((head ++ settings) ++ segments) =
+        segments_put ∙ ap (λ m. over m 33 segments) first
         ∙ over_over memory 0 (head ++ settings) segments (omega arith) in
         let front : List ℕ = (head ++ settings) ++ segments in
         let behind : 33 + length segments ≡ 0 + length front =
         omega (arith, length-append (head ++ settings) segments) in
-        closures-put
+        closures_put
         ∙ ap₂ (λ m p. over m p closures) second behind
         ∙ over_over memory 0 front closures (omega (arith, behind))
         ∙ ap (over memory 0) whole
@@ -62,9 +62,9 @@ module _ (c : Content) where
         → Written c memory count after
     sheet_written count fits counted =
         let size = length_encode c fits in
-        let segments-long = length_written_all segment_layout segment_faithful c.segments in
-        let closures-long = length_written_all closure_layout closure_faithful c.closures in
-        let long : count ≡ length (encode c) = omega (arith, size, segments-long, closures-long) in
+        let segments_long = length_written_all segment_layout segment_faithful c.segments in
+        let closures_long = length_written_all closure_layout closure_faithful c.closures in
+        let long : count ≡ length (encode c) = omega (arith, size, segments_long, closures_long) in
         let bytes : after ≡ encode c ++ drop count memory =
         sheet_put ∙ over_start memory (encode c) ∙ ap (λ n. encode c ++ drop n memory) (sym long) in
         record {

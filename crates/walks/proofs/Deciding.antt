@@ -12,7 +12,7 @@ dec_and {A} {B} (yes a) second = both (second a)
   where
     both : Dec B → Dec (A × B)
     both (yes b) = yes (a, b)
-    both (no not-b) = no (λ x. not-b x.1)
+    both (no not_b) = no (λ x. not_b x.1)
 dec_and (no not_a) second = no (λ x. not_a x.0)
 
 pub record First (n : ℕ) (P : ℕ → Type 0) : Type 0 where
@@ -37,9 +37,9 @@ find_first (suc n) P decide =
   where
     here : ((k : ℕ) → k < n → P k → ⊥) → Dec (P n) → First (suc n) P ⊎ ((k : ℕ) → k < suc n → P k → ⊥)
     here none (yes p) = inl (record { at = n; within = omega arith; holds = p; none_before = none })
-    here none (no not-p) =
+    here none (no not_p) =
         inr (λ k within p.
-        ⊎_elim (λ (same : k ≡ n). not-p (subst P same p)) (λ apart. none k (omega arith) p) (cases_eq k n))
+        ⊎_elim (λ (same : k ≡ n). not_p (subst P same p)) (λ apart. none k (omega arith) p) (cases_eq k n))
 
 pub dec_some : (n : ℕ) (P : ℕ → Type 0) → ((k : ℕ) → k < n → Dec (P k)) → Dec ((k : ℕ) × (k < n) × P k)
 dec_some n P decide =

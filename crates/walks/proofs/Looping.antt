@@ -1,7 +1,7 @@
 -- The main loop of a search: the least label is taken out until none waits.
 use Rattle.std.proofs.Common.{◌≡◌, ℕ, ◌+◌, ◌<◌, ◌≤◌, Bool, true, false, ◌≢◌, List, [], ◌∷◌, length, set, replicate, sym, ap, ◌∙◌, subst, ap₂, inl, inr, ⊎_elim, arith}
 use Rattle.std.specs.List.Sorted.{IsPermutation}
-use Rattle.std.specs.List.{ContainsAt as Has, AllByRecursion as All}
+use Rattle.std.specs.List.{ContainsAt as Has, AllByRecursion}
 use Rattle.std.proofs.lemmas.List.{get_or_past, get_or-replicate, get_or-set_other, get_or-set_same, length-replicate, length-set, nil_from_length}
 use Rattle.std.proofs.lemmas.List.Sorted.{length_permutation}
 use Rattle.std.proofs.ByRecursion.{all_shuffled}
@@ -52,7 +52,7 @@ module _ (m : Meaning) (sound : Sound m) (o t : ℕ) (q : List Label)
       (omega (arith, origin_within, length-replicate most_junctions far))
 
   at_other : (w : ℕ) → w < m.shown.junctions → w ≢ o → at table w ≡ far
-  at_other w w-known apart =
+  at_other w w_known apart =
       let few = sound.plan_fits.few_junctions in
       get_or-set_other (replicate most_junctions far) o w t 0 apart ∙ get_or-replicate most_junctions w far 0 (omega arith)
 
@@ -64,13 +64,13 @@ module _ (m : Meaning) (sound : Sound m) (o t : ℕ) (q : List Label)
       (cases_lt w most_junctions)
 
   first_waits : (w : ℕ) → w < m.shown.junctions → at table w < far → Has q (label (at table w) w)
-  first_waits w w-known near =
+  first_waits w w_known near =
       ⊎_elim
       (λ (is : w ≡ o). subst (Has q) (sym (ap₂ label (ap (at table) is ∙ at_origin) is)) (put_in put))
-      (λ apart. absurd (omega (arith, at_other w w-known apart)))
+      (λ apart. absurd (omega (arith, at_other w w_known apart)))
       (cases_eq w o)
 
-  first_ahead : All (Ahead m table 0) q
+  first_ahead : AllByRecursion (Ahead m table 0) q
   first_ahead =
       let low = sound.plan_fits.few_slots in
       all_shuffled (Ahead m table 0) (label t o ∷ []) q put
@@ -85,15 +85,15 @@ module _ (m : Meaning) (sound : Sound m) (o t : ℕ) (q : List Label)
         settled_long = omega (arith, length-replicate most_junctions false);
         slot_low = omega arith;
         origin = omega (arith, at_origin);
-        reached = λ w w-known.
+        reached = λ w w_known.
             ⊎_elim
             (λ (is : w ≡ o). inr ([], (sym is, sym (ap (at table) is ∙ at_origin))))
-            (λ apart. inl (at_other w w-known apart))
+            (λ apart. inl (at_other w w_known apart))
             (cases_eq w o);
-        behind = λ w w-known is. absurd (both_ways _ (none_done w) is);
-        waiting = λ w w-known is near. first_waits w w-known near;
+        behind = λ w w_known is. absurd (both_ways _ (none_done w) is);
+        waiting = λ w w_known is near. first_waits w w_known near;
         ahead = first_ahead;
-        relaxed = λ i i-known free.
+        relaxed = λ i i_known free.
             absurd (both_ways _ (none_done (from m i)) (not_pending_done m unsettled 0 (segments m) i free));
       }
 
@@ -161,7 +161,7 @@ module _ {m : Meaning} {o t : ℕ} {best : List ℕ} {settled : List Bool} {q p 
 
       pub remaining_settled : remaining m (set settled x.junction true) last < remaining m settled q
       remaining_settled =
-          let None-more = gone.1 in
+          let none_more = gone.1 in
           omega (arith, fewer, pendings_any m more x.junction 0)
 
       waits_settled : Waits m o t after (set settled x.junction true) last size
@@ -214,10 +214,10 @@ module _ {m : Meaning} {first : List ℕ} {before : List Bool} {begun : Queue La
       → Least label_before x (held queue) → done settled x.junction ≡ false
       → (after : List ℕ) → Keeps rest last → Goes m x.junction 0 best (held rest) (segments m) after (held last)
       → Follows m first before begun after (set settled x.junction true) last
-  follows_settled {last = last} keeps taken least unsettled after keeps-last goes = record {
-    keeps = keeps_on follows.keeps (keeps_on keeps keeps-last);
+  follows_settled {last = last} keeps taken least unsettled after keeps_last goes = record {
+    keeps = keeps_on follows.keeps (keeps_on keeps keeps_last);
     waits = λ o t waits.
-        waits_in (keeps_on keeps keeps-last).same_room
+        waits_in (keeps_on keeps keeps_last).same_room
         (waits_settled (follows.waits o t waits) taken least unsettled after (held last) goes);
   }
 

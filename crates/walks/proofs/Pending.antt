@@ -82,7 +82,7 @@ module _ (m : Meaning) (settled : List Bool) (v k : ℕ) where
       → pendings m settled v (k + 1) < pendings m settled v k
   pendings_relaxed known starts now =
       count_less (segments m) k (pending m settled v (k + 1)) (pending m settled v k)
-      (λ i i-known. pending_before (pending m settled v k i) (pending m settled v (k + 1) i) (passed i))
+      (λ i i_known. pending_before (pending m settled v k i) (pending m settled v (k + 1) i) (passed i))
       known
       (not_pending m settled v (k + 1) k (rw starts now) (λ _. omega arith))
       (out_pending m settled v k k (out_here m v k starts))

@@ -1,7 +1,7 @@
 -- What is in a queue once a label was put in or taken out.
 use Rattle.std.proofs.Common.{◌≡◌, ℕ, zero, suc, ◌<◌, ◌≤◌, false, ◌⊎◌, List, [], ◌∷◌, length, refl, ◌∙◌, inl, inr, arith}
 use Rattle.std.specs.List.Sorted.{IsPermutation}
-use Rattle.std.specs.List.{HoldsAt, ContainsAt as Has, AllByRecursion as All}
+use Rattle.std.specs.List.{HoldsAt, ContainsAt as Has, AllByRecursion}
 use Rattle.std.proofs.ByRecursion.{All-weaker, has_append_right, has_shuffled}
 use Rattle.std.proofs.lemmas.Bool.Decides.{nat_tests}
 use Rattle.queue.specs.Queue.{Least}
@@ -36,7 +36,7 @@ pub taken_keeps : {q p : List Label} {x : Label} → IsPermutation q (x ∷ p) �
 taken_keeps {q} {p} {x} taken y has = has_cases x y p (has_shuffled q (x ∷ p) y taken has)
 
 -- the least label has the smallest slot
-pub least_slot : {q : List Label} {x : Label} → Least label_before x q → All (λ y. x.slot ≤ y.slot) q
+pub least_slot : {q : List Label} {x : Label} → Least label_before x q → AllByRecursion (λ y. x.slot ≤ y.slot) q
 least_slot {q} {x} least =
     All-weaker (λ y. label_before y x ≡ false) (λ y. x.slot ≤ y.slot) (λ y later. grind (arith, nat_tests)) q
     least.none_before

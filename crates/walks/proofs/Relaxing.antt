@@ -2,7 +2,7 @@
 use Rattle.std.proofs.Common.{◌≡◌, ℕ, ◌+◌, ◌<◌, ◌≤◌, Bool, true, false, ◌≢◌, ◌⊎◌, List, [], ◌∷◌, ◌++◌, length, set, sym, refl, ap, ◌∙◌, subst, ap₂, subst₂, inl, inr, ⊎_elim, arith}
 use mathlib.Core.Path.{subst₃}
 use Rattle.std.specs.List.Sorted.{IsPermutation}
-use Rattle.std.specs.List.{ContainsAt as Has, AllByRecursion as All}
+use Rattle.std.specs.List.{ContainsAt as Has, AllByRecursion}
 use Rattle.std.proofs.ByRecursion.{All-weaker, all_shuffled}
 use Rattle.std.proofs.lemmas.List.{get_or-set_other, get_or-set_same, length-set}
 use Rattle.std.proofs.lemmas.List.Sorted.{length_permutation}
@@ -78,8 +78,8 @@ module _ {m : Meaning} {o t : ℕ} {best : List ℕ} {settled : List Bool} {q p 
   end_known = (sound.plan_fits.roads_fit k known).end_known
 
   end_unsettled : done settled (to m k) ≡ true → ⊥
-  end_unsettled settled-end =
-      let behind = s.searching.behind (to m k) end_known settled-end in
+  end_unsettled settled_end =
+      let behind = s.searching.behind (to m k) end_known settled_end in
       let here = s.here in
       let later = next.later in
       omega arith
@@ -105,7 +105,7 @@ module _ {m : Meaning} {o t : ℕ} {best : List ℕ} {settled : List Bool} {q p 
   -- the walk to v, and segment k
   walk_over : (legs : List Leg) × Walk m o t (to m k) (e + slots m k) legs
   walk_over =
-      let v-known : v < m.shown.junctions = rw starts at (sound.plan_fits.roads_fit k known).start_known in
+      let v_known : v < m.shown.junctions = rw starts at (sound.plan_fits.roads_fit k known).start_known in
       let near = s.searching.slot_low in
       let here = s.here in
       ⊎_elim
@@ -115,36 +115,36 @@ module _ {m : Meaning} {o t : ℕ} {best : List ℕ} {settled : List Bool} {q p 
         walk_push m o t v (at best v) walk.0 (leg k e) walk.1
             (record { fits = next.fits; starts = starts; waits = next.later }),
       ))
-      (s.searching.reached v v-known)
+      (s.searching.reached v v_known)
 
   better_reached : (w : ℕ) → w < m.shown.junctions
       → (at after w ≡ far) ⊎ ((legs : List Leg) × Walk m o t w (at after w) legs)
-  better_reached w w-known =
+  better_reached w w_known =
       ⊎_elim
       (λ end. inr (
         walk_over.0,
         subst₃ (Walk m o t) (sym end) (sym (ap (at after) end ∙ at_end)) refl walk_over.1,
       ))
-      (λ apart. rw (at_other w apart) (s.searching.reached w w-known))
+      (λ apart. rw (at_other w apart) (s.searching.reached w w_known))
       (cases_eq w (to m k))
 
   better_waiting : (w : ℕ) → w < m.shown.junctions → done settled w ≡ false → at after w < far
       → Has p (label (at after w) w)
-  better_waiting w w-known unsettled near =
+  better_waiting w w_known unsettled near =
       ⊎_elim
       (λ (end : w ≡ to m k). subst (Has p) (ap₂ label (sym (ap (at after) end ∙ at_end)) (sym end)) (put_in put))
       (λ apart.
       let same = at_other w apart in
-      rw same (put_keeps put (label (at best w) w) (s.searching.waiting w w-known unsettled (rw same at near))))
+      rw same (put_keeps put (label (at best w) w) (s.searching.waiting w w_known unsettled (rw same at near))))
       (cases_eq w (to m k))
 
-  better_ahead : All (Ahead m after d) p
+  better_ahead : AllByRecursion (Ahead m after d) p
   better_ahead =
       let ends = admitted_within m (leg k e) next.fits in
       let low = sound.plan_fits.few_slots in
       let later = next.later in
       let here = s.here in
-      let still : All (Ahead m after d) q =
+      let still : AllByRecursion (Ahead m after d) q =
       All-weaker (Ahead m best d) (Ahead m after d)
       (λ x ahead.
       let by = ahead.best_by in
@@ -160,7 +160,7 @@ module _ {m : Meaning} {o t : ℕ} {best : List ℕ} {settled : List Bool} {q p 
       all_shuffled (Ahead m after d) (label (e + slots m k) (to m k) ∷ q) p put (new, still)
 
   better_relaxed : (i : ℕ) → i < segments m → pending m settled v (k + 1) i ≡ false → Enough m i after
-  better_relaxed i i-known free f from_then fits =
+  better_relaxed i i_known free f from_then fits =
       let same = at_settled (from m i) (not_pending_done m settled v (k + 1) i free) in
       ⊎_elim
       (λ (is : i ≡ k).
@@ -171,7 +171,7 @@ module _ {m : Meaning} {o t : ℕ} {best : List ℕ} {settled : List Bool} {q p 
       omega arith)
       (λ apart.
       let before = passed_before m settled v k i free (λ x. apart x.0) in
-      let enough = s.searching.relaxed i i-known before f (omega arith) fits in
+      let enough = s.searching.relaxed i i_known before f (omega arith) fits in
       omega (arith, at_no_later (to m i)))
       (cases_eq i k)
 
@@ -183,7 +183,7 @@ module _ {m : Meaning} {o t : ℕ} {best : List ℕ} {settled : List Bool} {q p 
       slot_low = s.searching.slot_low;
       origin = let origin = s.searching.origin in omega (arith, at_no_later o);
       reached = better_reached;
-      behind = λ w w-known is. let behind = s.searching.behind w w-known is in omega (arith, at_settled w is);
+      behind = λ w w_known is. let behind = s.searching.behind w w_known is in omega (arith, at_settled w is);
       waiting = better_waiting;
       ahead = better_ahead;
       relaxed = better_relaxed;

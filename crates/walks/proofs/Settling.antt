@@ -26,8 +26,8 @@ turn_begins m v best queue fits =
 
 module _ {m : Meaning} {v : ℕ} {first : List ℕ} {begun : Queue Label} {k : ℕ} {best : List ℕ} {queue : Queue Label}
     (turn : Turn m v first begun k best queue) where
-  pub turn_at : {same-best : List ℕ} {same_queue : Queue Label}
-      → same-best ≡ best → same_queue ≡ queue → Turn m v first begun k same-best same_queue
+  pub turn_at : {same_best : List ℕ} {same_queue : Queue Label}
+      → same_best ≡ best → same_queue ≡ queue → Turn m v first begun k same_best same_queue
   turn_at p q = subst₂ (Turn m v first begun k) (sym p) (sym q) turn
 
   -- segment k starts elsewhere

@@ -28,19 +28,19 @@ module _ {m : Meaning} {o t : ℕ} {best : List ℕ} {settled : List Bool} {d v 
   best_along x b w a (l ∷ legs) known by near walk =
       let takes = walk.0 in
       let i = l.segment in
-      let i-known = admitted_known m l takes.fits in
+      let i_known = admitted_known m l takes.fits in
       let within = admitted_within m l takes.fits in
       let low = sound.plan_fits.few_slots in
       let waits = takes.waits in
       let there : done settled (from m i) ≡ true = rw takes.starts (all_settled x known (omega arith)) in
       let start : at best (from m i) ≡ at best x = ap (at best) takes.starts in
-      let free = not_pending m settled v (segments m) i there (λ _. i-known) in
-      let enough = s.relaxed i i-known free l.entry (omega arith) takes.fits in
-      let end_known = (sound.plan_fits.roads_fit i i-known).end_known in
+      let free = not_pending m settled v (segments m) i there (λ _. i_known) in
+      let enough = s.relaxed i i_known free l.entry (omega arith) takes.fits in
+      let end_known = (sound.plan_fits.roads_fit i i_known).end_known in
       best_along (to m i) (end_of m l) w a legs end_known enough (omega arith) walk.1
 
   pub solved : o < m.shown.junctions → t < horizon m → Solved m o t best
-  solved o-known early = record {
+  solved o_known early = record {
     bounded = λ w known.
         ⊎_elim
         (λ away. omega arith)
@@ -65,4 +65,4 @@ module _ {m : Meaning} {o t : ℕ} {best : List ℕ} {settled : List Bool} {d v 
       never_later : (w a : ℕ) (legs : List Leg) → Walk m o t w a legs → (at best w ≤ a) × (a < far)
       never_later w a legs walk =
           let low = sound.plan_fits.few_slots in
-          best_along o t w a legs o-known s.origin (omega arith) walk
+          best_along o t w a legs o_known s.origin (omega arith) walk

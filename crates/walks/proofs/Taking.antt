@@ -1,7 +1,7 @@
 -- The least label x is taken out of the queue q, of which p is left: its junction is settled already, or is now.
 use Rattle.std.proofs.Common.{◌≡◌, ℕ, ◌<◌, ◌≤◌, Bool, true, false, ◌≢◌, List, ◌∷◌, length, set, sym, ap, ◌∙◌, subst, ⊎_elim, arith}
 use Rattle.std.specs.List.Sorted.{IsPermutation}
-use Rattle.std.specs.List.{ContainsAt as Has, AllByRecursion as All}
+use Rattle.std.specs.List.{ContainsAt as Has, AllByRecursion}
 use Rattle.std.proofs.ByRecursion.{all-has, all_has_itself, All-weaker, all_shuffled}
 use Rattle.std.proofs.lemmas.List.{get_or-set_other, get_or-set_same, length-set}
 use Rattle.std.proofs.lemmas.Bool.{both_ways, cases_eq}
@@ -16,7 +16,7 @@ use Rattle.walks.proofs.Queues.{least_slot, taken_keeps}
 
 module _ {m : Meaning} {o t : ℕ} {best : List ℕ} {settled : List Bool} {q p : List Label} {d v : ℕ} {x : Label}
     (s : Searching m o t best settled q d v (segments m)) (taken : IsPermutation q (x ∷ p)) where
-  was_ahead : Ahead m best d x × All (Ahead m best d) p
+  was_ahead : Ahead m best d x × AllByRecursion (Ahead m best d) p
   was_ahead = all_shuffled (Ahead m best d) q (x ∷ p) taken s.ahead
 
   pub taken_within : x.junction < length settled
@@ -51,8 +51,8 @@ module _ {m : Meaning} {o t : ℕ} {best : List ℕ} {settled : List Bool} {q p 
         let by = ahead.best_by in
         let near = ahead.not_far in
         let waits = s.waiting x.junction ahead.known unsettled (omega arith) in
-        let best-label = label (at best x.junction) x.junction in
-        omega (arith, all-has (λ y. x.slot ≤ y.slot) q best-label (least_slot least) waits)
+        let best_label = label (at best x.junction) x.junction in
+        omega (arith, all-has (λ y. x.slot ≤ y.slot) q best_label (least_slot least) waits)
 
     abbrev after : List Bool
     after = set settled x.junction true
@@ -100,7 +100,7 @@ module _ {m : Meaning} {o t : ℕ} {best : List ℕ} {settled : List Bool} {q p 
         (λ apart. omega (arith, s.behind w known (sym (settled_other w apart) ∙ now)))
         (cases_eq w x.junction)
 
-    now_ahead : All (Ahead m best x.slot) p
+    now_ahead : AllByRecursion (Ahead m best x.slot) p
     now_ahead =
         let first = (all_shuffled (λ y. x.slot ≤ y.slot) q (x ∷ p) taken (least_slot least)).1 in
         All-weaker (Has p) (Ahead m best x.slot)

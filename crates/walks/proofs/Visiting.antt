@@ -1,7 +1,7 @@
 -- Along a chosen route E rises, so it visits no junction twice, and has fewer legs than there are junctions.
 use Rattle.std.proofs.Common.{◌≡◌, ℕ, ◌<◌, ◌≤◌, ◌≢◌, List, [], ◌∷◌, ◌++◌, map, reverse, length, sym, ap, ◌∙◌, subst, arith}
 use mathlib.Core.List.{reverse-cons, reverse-reverse}
-use Rattle.std.specs.List.{AllByRecursion as All}
+use Rattle.std.specs.List.{AllByRecursion}
 use Rattle.std.proofs.ByRecursion.{All-push, All-weaker}
 use Rattle.std.proofs.lemmas.List.{length-map, map_push}
 use Rattle.book.specs.Meaning.{Meaning, Sound}
@@ -32,7 +32,7 @@ record Within (m : Meaning) (o t a w : ℕ) : Type 0 where
 module _ (m : Meaning) (sound : Sound m) (o t : ℕ) where
   -- the junctions up to v have E up to E(v)
   traced_within : (v a : ℕ) (ls : List Leg)
-      → Traced m o t v ls → Earliest m o t v a → All (Within m o t a) (visited m o (reverse ls))
+      → Traced m o t v ls → Earliest m o t v a → AllByRecursion (Within m o t a) (visited m o (reverse ls))
   traced_within v a [] traced earliest =
       let same = earliest_unique m o t o t a (earliest_origin m o t) (rw traced at earliest) in
       (record { slot = t; earliest = earliest_origin m o t; by = omega arith }, tt)
@@ -42,11 +42,11 @@ module _ (m : Meaning) (sound : Sound m) (o t : ℕ) where
       let rises = last_rises m o t sound v l last in
       let same = earliest_unique m o t v _ a last.earliest earliest in
       let before = traced_within (from m l.segment) start ls traced.2 last.into.start_earliest in
-      let later : All (Within m o t a) (visited m o (reverse ls)) =
+      let later : AllByRecursion (Within m o t a) (visited m o (reverse ls)) =
       All-weaker (Within m o t start) (Within m o t a)
       (λ w x. record { slot = x.slot; earliest = x.earliest; by = let early = x.by in omega arith })
       (visited m o (reverse ls)) before in
-      subst (All (Within m o t a)) (sym (visited_back m o l ls))
+      subst (AllByRecursion (Within m o t a)) (sym (visited_back m o l ls))
       (All-push (Within m o t a) (visited m o (reverse ls)) (to m l.segment) later
       (record { slot = a; earliest = rw last.into.ends earliest; by = omega arith }))
 
@@ -80,7 +80,7 @@ module _ (m : Meaning) (sound : Sound m) (o t : ℕ) where
 
   -- the junctions of a walk are known
   walk_known : (x s v a : ℕ) (ls : List Leg)
-      → Walk m x s v a ls → All (λ w. w < m.shown.junctions) (map (to m) (segments_of ls))
+      → Walk m x s v a ls → AllByRecursion (λ w. w < m.shown.junctions) (map (to m) (segments_of ls))
   walk_known x s v a [] walk = tt
   walk_known x s v a (l ∷ ls) walk = (
     (sound.plan_fits.roads_fit l.segment (admitted_known m l walk.0.fits)).end_known,

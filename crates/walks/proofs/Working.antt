@@ -46,12 +46,12 @@ table_solved m sound o t best known early long origin reached none =
       settled_long = omega (arith, length-replicate m.shown.junctions true);
       slot_low = omega arith;
       origin = origin;
-      reached = λ w w-known. inr (reached w w-known).1;
-      behind = λ w w-known _. let near = (reached w w-known).0 in omega arith;
-      waiting = λ w w-known unsettled near.
-          absurd (both_ways _ unsettled (get_or-replicate m.shown.junctions w true false w-known));
+      reached = λ w w_known. inr (reached w w_known).1;
+      behind = λ w w_known _. let near = (reached w w_known).0 in omega arith;
+      waiting = λ w w_known unsettled near.
+          absurd (both_ways _ unsettled (get_or-replicate m.shown.junctions w true false w_known));
       ahead = tt;
-      relaxed = λ i i-known _. enough m sound best none i i-known;
+      relaxed = λ i i_known _. enough m sound best none i i_known;
     }) known early
 
 -- ---- the example
@@ -86,10 +86,10 @@ reserved_sound m l sound fits room =
 
 road_fits : (start end slots : ℕ) → start < 4 → end < 4 → start ≢ end → 1 ≤ slots → slots ≤ 64
     → RoadFits 4 (record { start = start; end = end; slots = slots; count = 1 })
-road_fits start end slots from-known to-known apart some few =
+road_fits start end slots from_known to_known apart some few =
     record {
-      start_known = from-known;
-      end_known = to-known;
+      start_known = from_known;
+      end_known = to_known;
       no_loop = apart;
       takes_a_slot = some;
       few_slots = few;
@@ -132,15 +132,15 @@ after_second_sound =
 two_legs : (m : Meaning) → Sound m → (best : List ℕ) (x a : ℕ) (l k : Leg) → Solved m 0 0 best → m.shown.junctions ≡ 4
     → x < 4 → x ≢ 0 → at best x < far → at best 3 < far → from m l.segment ≡ 0 → from m k.segment ≡ x
     → TableLast m best x l 0 → TableLast m best 3 k x → Walk m 0 0 3 a (l ∷ k ∷ []) → Worked m a (l ∷ k ∷ [])
-two_legs m sound best x a l k table four x-known away x-near near l-starts k-starts first second walk =
+two_legs m sound best x a l k table four x_known away x_near near l_starts k_starts first second walk =
     record {
       chosen = (
         (λ same. omega arith),
         table_last table sound 3 (omega arith) near k x second,
         (
-          (λ same. away (sym k-starts ∙ same)),
-          subst (λ v. Last m 0 0 v l) (sym k-starts) (table_last table sound x (omega arith) x-near l 0 first),
-          l-starts,
+          (λ same. away (sym k_starts ∙ same)),
+          subst (λ v. Last m 0 0 v l) (sym k_starts) (table_last table sound x (omega arith) x_near l 0 first),
+          l_starts,
         ),
       );
       walk = walk;

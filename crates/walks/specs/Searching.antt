@@ -1,7 +1,7 @@
 -- The state of a search from junction o at slot t: the table `best` of the best slots so far, the table `settled` of
 -- the settled junctions, and the labels q that wait in the queue.
 use Rattle.std.specs.Prelude.{◌≡◌, ℕ, ◌+◌, ◌<◌, ◌≤◌, Bool, true, false, not, ◌&&◌, ◌||◌, ◌⊎◌, List, length, ◌==◌, nat_le}
-use Rattle.std.specs.List.{ContainsAt as Has, AllByRecursion as All}
+use Rattle.std.specs.List.{ContainsAt as Has, AllByRecursion}
 use Rattle.book.specs.Meaning.{Meaning, horizon, segments}
 use Rattle.book.specs.declared.legs.Leg.{Leg}
 use Rattle.walks.specs.Count.{count}
@@ -51,7 +51,7 @@ pub record Searching (m : Meaning) (o t : ℕ) (best : List ℕ) (settled : List
   pub behind : (w : ℕ) → w < m.shown.junctions → done settled w ≡ true → at best w ≤ d
   pub waiting : (w : ℕ) → w < m.shown.junctions → done settled w ≡ false → at best w < far
       → Has q (label (at best w) w)
-  pub ahead : All (Ahead m best d) q
+  pub ahead : AllByRecursion (Ahead m best d) q
   pub relaxed : (i : ℕ) → i < segments m → pending m settled v k i ≡ false → Enough m i best
 
 -- and v is settled, with slot d in the table

@@ -1,6 +1,6 @@
 -- Timed walks, the earliest slot at which a junction is reached, and the chosen route.
 use Rattle.std.specs.Prelude.{◌≡◌, ℕ, ◌+◌, ◌-◌, ◌<◌, ◌≤◌, true, ◌≢◌, List, [], ◌∷◌, map, reverse}
-use Rattle.std.specs.List.{AllByRecursion as All}
+use Rattle.std.specs.List.{AllByRecursion}
 use Rattle.book.specs.Loads.{admissible}
 use Rattle.book.specs.Meaning.{Meaning, road, segments}
 use Rattle.book.specs.declared.legs.Leg.{Leg}
@@ -89,4 +89,4 @@ visited m o legs = o ∷ map (to m) (segments_of legs)
 -- no two of the numbers are equal
 abbrev pub Different : List ℕ → Type 0
 Different [] = Unit {0}
-Different (n ∷ ns) = All (λ k. k ≢ n) ns × Different ns
+Different (n ∷ ns) = AllByRecursion (λ k. k ≢ n) ns × Different ns

@@ -26,13 +26,13 @@ returns g c =
     let v = g.B.Book.meaning c.args.second in
     let one = c.in-Ok.ensures in
     let two = c.in-Ok-start.ensures in
-    let second-labels = c.play.ensures.scratch in
-    let third-labels = c.play-2.ensures.scratch ∙ second-labels in
+    let second_labels = c.play.ensures.scratch in
+    let third_labels = c.play-2.ensures.scratch ∙ second_labels in
     let first =
     rehearsed w _ _ _ _ _ _ _ _ _ c.play-2.ensures.keeping c.finish.ensures.parked
     (ap vec_items c.finish.ensures.history)
     (calls_then n n _ c.args.calls.now last _ _ _ (ap (map (λ x. x.call)) one.1) c.play.ensures.made
-    c.play-2.ensures.made refl second-labels)
+    c.play-2.ensures.made refl second_labels)
     (λ none.
     c.play-2.ensures.going w
     (c.play.ensures.going w
@@ -41,7 +41,7 @@ returns g c =
     rehearsed v _ _ _ _ _ _ _ _ _ c.play-4.ensures.keeping c.finish-2.ensures.parked
     (ap vec_items c.finish-2.ensures.history)
     (calls_then n _ _ c.args.others.now last _ _ _ (ap (map (λ x. x.call)) two.1) c.play-3.ensures.made
-    c.play-4.ensures.made third-labels (c.play-3.ensures.scratch ∙ third-labels))
+    c.play-4.ensures.made third_labels (c.play-3.ensures.scratch ∙ third_labels))
     (λ none.
     c.play-4.ensures.going v
     (c.play-3.ensures.going v

@@ -26,38 +26,38 @@ put_segments-closures_start-requires c =
 pub put_closures-end-requires : goal.put_closures-end-requires
 put_closures-end-requires c =
     let plan = content c.args.plan.now in
-    let segments-long = length_written_all segment_layout segment_faithful plan.segments in
-    let segments-same = ap (λ gs. length (written_all segment_layout gs)) c.segments.ensures in
-    let closures-long = length_written_all closure_layout closure_faithful plan.closures in
-    let closures-same = ap (λ ks. length (written_all closure_layout ks)) c.closures.ensures in
-    omega (arith, segments-long, segments-same, closures-long, closures-same)
+    let segments_long = length_written_all segment_layout segment_faithful plan.segments in
+    let segments_same = ap (λ gs. length (written_all segment_layout gs)) c.segments.ensures in
+    let closures_long = length_written_all closure_layout closure_faithful plan.closures in
+    let closures_same = ap (λ ks. length (written_all closure_layout ks)) c.closures.ensures in
+    omega (arith, segments_long, segments_same, closures_long, closures_same)
 
 pub returns : goal.returns
 returns c =
     let plan = content c.args.plan.now in
-    let segments-same = ap (written_all segment_layout) c.segments.ensures in
-    let closures-same = ap (written_all closure_layout) c.closures.ensures in
-    let segments-long = length_written_all segment_layout segment_faithful plan.segments in
-    let closures-long = length_written_all closure_layout closure_faithful plan.closures in
+    let segments_same = ap (written_all segment_layout) c.segments.ensures in
+    let closures_same = ap (written_all closure_layout) c.closures.ensures in
+    let segments_long = length_written_all segment_layout segment_faithful plan.segments in
+    let closures_long = length_written_all closure_layout closure_faithful plan.closures in
     let memory = c.args.memory.now in
-    let after-head = c.put_head-settings_start.new.memory in
-    let after-settings = c.put_settings-segments_start.new.memory in
-    let after-segments = c.put_segments-closures_start.new.memory in
-    let settings-place : c.put_head-settings_start.result ≡ 26 = c.put_head-settings_start.ensures.behind in
-    let segments-place : c.put_settings-segments_start.result ≡ 33 = omega arith in
-    let closures-place : c.put_segments-closures_start.result ≡ 33 + length (written_all segment_layout plan.segments) =
-    omega (arith, ap length segments-same) in
-    let head-put = c.put_head-settings_start.ensures.written
+    let after_head = c.put_head-settings_start.new.memory in
+    let after_settings = c.put_settings-segments_start.new.memory in
+    let after_segments = c.put_segments-closures_start.new.memory in
+    let settings_place : c.put_head-settings_start.result ≡ 26 = c.put_head-settings_start.ensures.behind in
+    let segments_place : c.put_settings-segments_start.result ≡ 33 = omega arith in
+    let closures_place : c.put_segments-closures_start.result ≡ 33 + length (written_all segment_layout plan.segments) =
+    omega (arith, ap length segments_same) in
+    let head_put = c.put_head-settings_start.ensures.written
     ∙ ap₂ (λ n m. over memory 0 (packed head_widths (head_values n m)))
     c.segment_count-segments.ensures c.closure_count-closures.ensures in
-    let settings-put = c.put_settings-segments_start.ensures.written
-    ∙ ap₂ (λ p s. over after-head p (written settings_layout s)) settings-place c.settings.ensures.value in
-    let segments-put = c.put_segments-closures_start.ensures.written
-    ∙ ap₂ (over after-settings) segments-place segments-same in
-    let closures-put = c.put_closures-end.ensures.written
-    ∙ ap₂ (over after-segments) closures-place closures-same in
+    let settings_put = c.put_settings-segments_start.ensures.written
+    ∙ ap₂ (λ p s. over after_head p (written settings_layout s)) settings_place c.settings.ensures.value in
+    let segments_put = c.put_segments-closures_start.ensures.written
+    ∙ ap₂ (over after_settings) segments_place segments_same in
+    let closures_put = c.put_closures-end.ensures.written
+    ∙ ap₂ (over after_segments) closures_place closures_same in
     let room : 33 + length (written_all segment_layout plan.segments) + length (written_all closure_layout plan.closures)
-    ≤ length memory = omega (arith, segments-long, closures-long) in
-    sheet_written plan memory after-head after-settings after-segments c.put_closures-end.new.memory
-    head-put settings-put segments-put closures-put room c.put_closures-end.result (plan_fits c.args.plan.now)
-    (omega (arith, closures-place, ap length closures-same))
+    ≤ length memory = omega (arith, segments_long, closures_long) in
+    sheet_written plan memory after_head after_settings after_segments c.put_closures-end.new.memory
+    head_put settings_put segments_put closures_put room c.put_closures-end.result (plan_fits c.args.plan.now)
+    (omega (arith, closures_place, ap length closures_same))

@@ -57,5 +57,5 @@ returns c =
         answer = frees_ok (grid_of b) l (λ none. c.if-standing-eq0.false (c.standing.ensures ∙ none));
         change = one_less s b.kept b.cells.now b.room l p at is some;
       };
-      refused = λ not-ok. absurd (true≢false not-ok);
+      refused = λ not_ok. absurd (true≢false not_ok);
     }

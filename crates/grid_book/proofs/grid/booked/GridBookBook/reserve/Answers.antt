@@ -56,5 +56,5 @@ returns c =
         change =
             one_more s b.kept b.cells.now b.room l c.place-place.result at c.place-place.ensures.is;
       };
-      refused = λ not-ok. absurd (true≢false not-ok);
+      refused = λ not_ok. absurd (true≢false not_ok);
     }

@@ -12,9 +12,9 @@ returns-then-admissible_held_back g c =
     let layer = c.args.self.now in
     let m = g.B.Book.meaning layer.below in
     let l = c.args.leg in
-    let open-here = open_told (closing (kept_closures layer) m.shown l.segment) l.entry _ _
+    let open_here = open_told (closing (kept_closures layer) m.shown l.segment) l.entry _ _
     c.barred_until.ensures c.is_none.ensures in
-    ap₂ (λ a b. a && b) c.if-admissible_held_back.ensures open-here ∙ sym (admissible_held_closed c.args.held (kept_closures layer) m l)
+    ap₂ (λ a b. a && b) c.if-admissible_held_back.ensures open_here ∙ sym (admissible_held_closed c.args.held (kept_closures layer) m l)
 
 pub returns-else-admissible_held_back : goal.returns-else-admissible_held_back
 returns-else-admissible_held_back g c =

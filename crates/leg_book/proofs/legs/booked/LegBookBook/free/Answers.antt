@@ -91,5 +91,5 @@ returns c =
         answer = frees_ok (legs_of b) l (found_stands s b.kept memory k within l (out b k) refl is at);
         change = one_less s b.kept memory k within l (out b k) refl is at;
       };
-      refused = λ not-ok. absurd (true≢false not-ok);
+      refused = λ not_ok. absurd (true≢false not_ok);
     }

@@ -80,5 +80,5 @@ returns c =
         answer = reserves_ok (legs_of b) l admitted (omega (arith, b.counted));
         change = one_more s b.kept memory c.in-Some.place within l unused at;
       };
-      refused = λ not-ok. absurd (true≢false not-ok);
+      refused = λ not_ok. absurd (true≢false not_ok);
     }

@@ -1,9 +1,10 @@
+-- Events with the same key are the same, which the law of their order asks for.
 use Rattle.std.specs.Prelude.{◌≡◌, ℕ, refl}
 use Rattle.std.proofs.Common.{arith}
-use Rattle.controller.specs.Events.{rank}
-use Rattle.controller.specs.declared.events.Change.{Change}
-use Rattle.controller.specs.declared.events.Change.TheVariants.{End, Departure}
-use Rattle.controller.specs.declared.events.Event.{Event}
+use Rattle.queue_client.specs.Kinds.{rank}
+use Rattle.queue_client.specs.declared.event.Change.{Change}
+use Rattle.queue_client.specs.declared.event.Change.TheVariants.{End, Departure}
+use Rattle.queue_client.specs.declared.event.Event.{Event}
 
 pub change_from_rank : (a b : Change) → rank a ≡ rank b → a ≡ b
 change_from_rank End End same = refl
