@@ -1,5 +1,5 @@
 -- The load of a segment in a slot, and which legs are admissible.
-use Rattle.std.specs.Prelude.{ℕ, ◌+◌, ◌≤◌, Bool, cond, not, ◌&&◌, ltb, nat_le, nat_lt}
+use Rattle.std.specs.Prelude.{ℕ, ◌+◌, ◌≤◌, Bool, cond, not, ◌&&◌, nat_le, nat_lt}
 use Rattle.book.specs.Below.{all_below, sum_below}
 use Rattle.book.specs.Meaning.{Meaning, horizon, road, segments}
 use Rattle.book.specs.declared.legs.Leg.{Leg}
@@ -19,7 +19,7 @@ load m i t = load_below (horizon m) (m.standing i) (road m i).slots t
 -- each slot that the leg would hold has a load below the critical count
 unfoldable pub has_room : Meaning → Leg → Bool
 has_room m l =
-    all_below (road m l.segment).slots (λ k. ltb (load m l.segment (l.entry + k)) (road m l.segment).count)
+    all_below (road m l.segment).slots (λ k. nat_lt (load m l.segment (l.entry + k)) (road m l.segment).count)
 
 -- its segment exists, it ends by the horizon, it is not barred, and it has room
 unfoldable pub admissible : Meaning → Leg → Bool

@@ -1,5 +1,5 @@
 // A book that keeps, in memory lent to it, a record for each standing leg.
-ghost use Rattle.std.specs.Prelude.{◌≡◌, ℕ, ◌≤◌, true, length, get_or, slice_index_or};
+ghost use Rattle.std.specs.Prelude.{◌≡◌, ℕ, ◌≤◌, true, length, slice_index_or};
 ghost use Rattle.plan.specs.Limits.{most_count, most_legs};
 ghost use Rattle.book.specs.Meaning.{total};
 ghost use Rattle.book.specs.ShownPlan.{shown_of};
@@ -19,7 +19,7 @@ pub struct LegBook<'a> {
     count: u16,
     records: &'a mut [LegRecord],
     ghost room: { kept ≡ true → most_legs ≤ length records.now },
-    ghost legal: { kept ≡ true → (k : ℕ) → (get_or (part_used records.now) k no_record).used ≡ true
+    ghost legal: { kept ≡ true → (k : ℕ) → (slice_index_or (part_used records.now) k no_record).used ≡ true
         → in_plan (shown_of plan) (slice_index_or (part_used records.now) k no_record) ≡ true },
     ghost small: { kept ≡ true → (i e : ℕ) → count_at (part_used records.now) i e ≤ most_count },
     ghost counted: { count ≡ total (legs_meaning (shown_of plan) kept records.now) },

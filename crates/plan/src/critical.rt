@@ -1,5 +1,5 @@
 // The critical count of a segment.
-ghost use Rattle.std.specs.Prelude.{◌≡◌, ◌<◌};
+ghost use Rattle.std.specs.Prelude.{◌≡◌};
 ghost use Rattle.plan.specs.Critical.{critical};
 
 use crate::limits::MOST_COUNT;

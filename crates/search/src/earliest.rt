@@ -1,12 +1,12 @@
 // The earliest slot at which each junction is reached, by labels in a queue.
 ghost use Rattle.std.specs.Prelude.{◌≡◌, ℕ, ◌+◌, ◌<◌, ◌≤◌, ◌≢◌, length};
-ghost use Rattle.book.specs.Meaning.{Meaning, horizon, segments};
+ghost use Rattle.book.specs.Meaning.{horizon, segments};
 ghost use Rattle.queue.specs.Queue.{HeapOrder, held, room};
 ghost use Rattle.walks.specs.Labels.{label_before};
 ghost use Rattle.walks.specs.Queues.{Keeps};
 ghost use Rattle.walks.specs.Relaxed.{Relaxed};
 ghost use Rattle.walks.specs.Searching.{Goes, Solved, Solves, Waits, outgoing};
-ghost use Rattle.walks.specs.Walks.{from as start_of_lem};
+ghost use Rattle.walks.specs.Walks.{from as start_of};
 
 use crate::entries::next_entry;
 use book::Book;
@@ -21,12 +21,12 @@ pub(crate) const FAR: u16 = u16::MAX;
 fn relax<B: Book>(book: &B, junction: u16, segment: u16, best: &mut [u16], queue: &mut Queue<Label>)
     requires known { segment < segments (B.Book.meaning book.now) }
     requires table { (B.Book.meaning book.now).shown.junctions ≤ length best.old }
-    requires room { start_of_lem (B.Book.meaning book.now) segment ≡ junction
+    requires room { start_of (B.Book.meaning book.now) segment ≡ junction
         → length (held queue.old) < room queue.old }
-    ensures here { start_of_lem (B.Book.meaning book.now) segment ≡ junction
+    ensures here { start_of (B.Book.meaning book.now) segment ≡ junction
         → Relaxed (B.Book.meaning book.now) segment
         best.old (held queue.old) best.new (held queue.new) }
-    ensures elsewhere { start_of_lem (B.Book.meaning book.now) segment ≢ junction
+    ensures elsewhere { start_of (B.Book.meaning book.now) segment ≢ junction
         → (best.new ≡ best.old) × (queue.new ≡ queue.old) }
     ensures keeps { Keeps queue.old queue.new }
 {

@@ -1,5 +1,5 @@
 // The route that a request is granted.
-ghost use Rattle.std.specs.Prelude.{◌≡◌, length, is_ok, Err};
+ghost use Rattle.std.specs.Prelude.{length, Err};
 ghost use Rattle.search.specs.Finds.{Finds, Untouched};
 
 use crate::earliest::{FAR, earliest_slots};

@@ -1,8 +1,7 @@
 // The chosen route, back from the destination.
-ghost use Rattle.std.specs.Prelude.{◌≡◌, ℕ, ◌<◌, ◌≤◌, length, slice_index};
+ghost use Rattle.std.specs.Prelude.{◌<◌, ◌≤◌, length, slice_index};
 ghost use Rattle.walks.specs.Labels.{far};
 ghost use Rattle.walks.specs.Searching.{Solved};
-ghost use Rattle.walks.specs.Tables.{TableInto};
 ghost use Rattle.walks.specs.Walks.{Chosen};
 ghost use Rattle.search.specs.Routes.{legs_of};
 ghost use Rattle.search.specs.Steps.{StepBack, StepOver};

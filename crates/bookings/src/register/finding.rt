@@ -1,5 +1,5 @@
 // Finding a booking by its number.
-ghost use Rattle.std.specs.Prelude.{◌≡◌, length};
+ghost use Rattle.std.specs.Prelude.{◌≡◌};
 ghost use Rattle.bookings.specs.Registers.{first_with, place as first_place};
 ghost use Rattle.bookings.specs.Steps.{listed};
 

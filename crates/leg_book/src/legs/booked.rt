@@ -1,5 +1,5 @@
 // What the leg book does.
-ghost use Rattle.std.specs.Prelude.{◌≡◌, ℕ, ◌+◌, ◌<◌, ◌≤◌, true, false, length, get_or, drop, MatchOption, nat_le, nat_lt, slice_index, slice_index_or};
+ghost use Rattle.std.specs.Prelude.{◌≡◌, ℕ, ◌+◌, ◌<◌, ◌≤◌, true, false, length, drop, MatchOption, nat_le, nat_lt, slice_index, slice_index_or};
 ghost use Rattle.plan.specs.Content.{content};
 ghost use Rattle.plan.specs.Limits.{most_count, most_legs, most_slots};
 ghost use Rattle.book.specs.Bottom.{no_legs};
@@ -36,8 +36,8 @@ fn count_of(records: &[LegRecord], leg: Leg) -> usize
 
 // How many legs of the segment enter at each slot.
 fn entering(records: &[LegRecord], segment: u16) -> [u8; MOST_SLOTS as usize]
-    requires early { (k : ℕ) → (get_or records.now k no_record).used ≡ true
-        → (get_or records.now k no_record).entry < most_slots }
+    requires early { (k : ℕ) → (slice_index_or records.now k no_record).used ≡ true
+        → (slice_index_or records.now k no_record).entry < most_slots }
     requires small { (e : ℕ) → count_at records.now segment e ≤ most_count }
     ensures long { length result ≡ most_slots }
     ensures counts { (e : ℕ) → e < most_slots → slice_index result e ≡ count_at records.now segment e }
@@ -69,7 +69,7 @@ fn find(records: &[LegRecord], leg: Leg) -> Option<usize>
 // The first record that is not in use.
 fn find_unused(records: &[LegRecord]) -> Option<usize>
     ensures { MatchOption result (count_used records.now ≡ length records.now)
-        (λ k. (k < length records.now) × ((get_or records.now k no_record).used ≡ false)) }
+        (λ k. (k < length records.now) × ((slice_index_or records.now k no_record).used ≡ false)) }
 {
     for k in 0..records.len() {
         if !records[k].used {
@@ -82,7 +82,7 @@ fn find_unused(records: &[LegRecord]) -> Option<usize>
 // Puts the first records out of use, one for each leg that a book may have.
 fn clear(records: &mut [LegRecord])
     requires { most_legs ≤ length records.old }
-    ensures cleared { (k : ℕ) → k < most_legs → (get_or records.new k no_record).used ≡ false }
+    ensures cleared { (k : ℕ) → k < most_legs → (slice_index_or records.new k no_record).used ≡ false }
     ensures rest { drop most_legs records.new ≡ drop most_legs records.old }
 {
     for k in 0..MOST_LEGS as usize {
@@ -146,7 +146,7 @@ impl<'a> LegBook<'a> {
             (count_used (part_used self.now.records.now)
             ≡ length (part_used self.now.records.now))
             (λ k. (k < length (part_used self.now.records.now))
-            × ((get_or (part_used self.now.records.now) k no_record).used ≡ false)) }
+            × ((slice_index_or (part_used self.now.records.now) k no_record).used ≡ false)) }
     {
         find_unused(self.part())
     }
