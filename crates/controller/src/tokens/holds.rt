@@ -7,7 +7,10 @@ impl Hold {
     pub(crate) fn new(number: u16) -> Hold
         ensures { result.number ≡ number }
     {
-        Hold { number }
+        Hold {
+            number,
+            spent: false,
+        }
     }
 
     // The number of its booking.
@@ -17,10 +20,11 @@ impl Hold {
         self.number
     }
 
-    pub(crate) fn spend(self) -> u16
+    pub(crate) fn spend(mut self) -> u16
         ensures { result ≡ self.number }
     {
-        let Hold { number } = self;
+        let number = self.number;
+        self.spent = true;
         number
     }
 }

@@ -7,7 +7,10 @@ impl Passage {
     pub(crate) fn new(number: u16) -> Passage
         ensures { result.number ≡ number }
     {
-        Passage { number }
+        Passage {
+            number,
+            spent: false,
+        }
     }
 
     // The number of its booking.
@@ -17,10 +20,11 @@ impl Passage {
         self.number
     }
 
-    pub(crate) fn spend(self) -> u16
+    pub(crate) fn spend(mut self) -> u16
         ensures { result ≡ self.number }
     {
-        let Passage { number } = self;
+        let number = self.number;
+        self.spent = true;
         number
     }
 }
