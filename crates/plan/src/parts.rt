@@ -2,7 +2,7 @@
 
 // `slot_length` is in milliseconds, `density` is the critical one in carriers per kilometre and lane, `horizon` the
 // number of slots.
-#[derive(Clone, Copy)]
+#[derive(Clone, Copy, PartialEq, Eq, Debug)]
 pub struct Settings {
     pub slot_length: u16,
     pub density: u16,
@@ -11,7 +11,7 @@ pub struct Settings {
 }
 
 // A one-way road from the junction `start` to the junction `end`; `length` is in metres.
-#[derive(Clone, Copy)]
+#[derive(Clone, Copy, PartialEq, Eq, Debug)]
 pub struct Segment {
     pub start: u16,
     pub end: u16,
@@ -21,7 +21,7 @@ pub struct Segment {
 }
 
 // The segment is closed in the slots from `first` to the one before `end`.
-#[derive(Clone, Copy)]
+#[derive(Clone, Copy, PartialEq, Eq, Debug)]
 pub struct Closure {
     pub segment: u16,
     pub first: u16,
@@ -29,7 +29,7 @@ pub struct Closure {
 }
 
 // The settings by name.
-#[derive(Clone, Copy)]
+#[derive(Clone, Copy, PartialEq, Eq, Debug)]
 pub enum Setting {
     SlotLength,
     Density,

@@ -6,7 +6,7 @@ ghost use Rattle.plan.specs.Refusals.{refusal_number, outside};
 use std::alloc::AllocError;
 
 // Each case is named for what is wrong. Its number is fixed for good: C programs, call lines and people rely on it.
-#[derive(Clone, Copy)]
+#[derive(Clone, Copy, PartialEq, Eq, Debug)]
 pub enum Refusal {
     SheetTooShort = 1,
     FormatUnknown = 2,
@@ -44,7 +44,7 @@ impl Refusal {
 
 // A refusal and where in a sheet it was met: the section (0 for the head, then 1 to 3) and the first byte of the place,
 // counted from the sheet's start. Outside a sheet both are 0.
-#[derive(Clone, Copy)]
+#[derive(Clone, Copy, PartialEq, Eq, Debug)]
 pub struct Fault {
     pub refusal: Refusal,
     pub section: u8,
@@ -64,7 +64,7 @@ impl Fault {
 }
 
 // Why there is no plan: a fault of what was handed in, or want of memory.
-#[derive(Clone, Copy)]
+#[derive(Clone, Copy, PartialEq, Eq, Debug)]
 pub enum PlanError {
     Refused(Fault),
     NoMemory,
