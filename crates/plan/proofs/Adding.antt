@@ -1,5 +1,5 @@
 -- What an addition keeps of a plan's ranges.
-use Rattle.std.proofs.Common.{◌≡◌, ℕ, ◌<◌, ◌≤◌, true, ◌&&◌, ltb, leb, List, [], ◌∷◌, ◌++◌, Some, None, refl, arith}
+use Rattle.std.proofs.Common.{◌≡◌, ℕ, ◌<◌, ◌≤◌, Bool, true, cond, ◌&&◌, ltb, leb, List, [], ◌∷◌, ◌++◌, Some, None, refl, arith}
 use Rattle.std.proofs.lemmas.Bool.{and_from, and_parts, leb-true, lt-ltb, ltb-true}
 use Rattle.plan.specs.declared.parts.Closure.{Closure}
 use Rattle.plan.specs.declared.parts.Segment.{Segment}
@@ -9,19 +9,21 @@ use Rattle.plan.specs.Limits.{most_travel}
 use Rattle.plan.specs.Ranges.{closure_rules, closures_fit, segment_rules, segments_fit}
 use Rattle.plan.specs.Rules.{first_broken, keeps}
 use Rattle.plan.specs.Travel.{travel}
-use Rattle.plan.proofs.Ruling.{all_kept, every_nth, every_push, every_weaker}
+use Rattle.plan.proofs.Ruling.{all_kept, every_added, every_nth, every_weaker}
 
-pub segments_fit_push : (s : Settings) (gs : List Segment) (g : Segment)
-    → segments_fit s gs ≡ true → first_broken (segment_rules s g) ≡ None → segments_fit s (gs ++ g ∷ []) ≡ true
+pub segments_fit_added : (s : Settings) (gs : List Segment) (g : Segment) (added : Bool) (after : List Segment)
+    → after ≡ cond added (gs ++ g ∷ []) gs → segments_fit s gs ≡ true
+    → (added ≡ true → first_broken (segment_rules s g) ≡ None) → segments_fit s after ≡ true
 unfolding segments_fit
-segments_fit_push s gs g fit none =
-    every_push (λ h. keeps (segment_rules s h)) gs g fit (all_kept (segment_rules s g) none)
+segments_fit_added s gs g added after grown fit none =
+    every_added (λ h. keeps (segment_rules s h)) gs g added after grown fit (λ ok. all_kept (segment_rules s g) (none ok))
 
-pub closures_fit_push : (s : Settings) (n : ℕ) (ks : List Closure) (k : Closure)
-    → closures_fit s n ks ≡ true → first_broken (closure_rules s n k) ≡ None → closures_fit s n (ks ++ k ∷ []) ≡ true
+pub closures_fit_added : (s : Settings) (n : ℕ) (ks : List Closure) (k : Closure) (added : Bool) (after : List Closure)
+    → after ≡ cond added (ks ++ k ∷ []) ks → closures_fit s n ks ≡ true
+    → (added ≡ true → first_broken (closure_rules s n k) ≡ None) → closures_fit s n after ≡ true
 unfolding closures_fit
-closures_fit_push s n ks k fit none =
-    every_push (λ h. keeps (closure_rules s n h)) ks k fit (all_kept (closure_rules s n k) none)
+closures_fit_added s n ks k added after grown fit none =
+    every_added (λ h. keeps (closure_rules s n h)) ks k added after grown fit (λ ok. all_kept (closure_rules s n k) (none ok))
 
 -- a closure that fits still fits among more segments
 closure_fits_among_more : (s : Settings) (m n : ℕ) → m ≤ n → (k : Closure)

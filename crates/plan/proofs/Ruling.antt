@@ -28,6 +28,13 @@ every_push test (y ∷ ys) x all here =
     let parts = and_parts (test y) (every test ys) all in
     and_from (test y) (every test (ys ++ x ∷ [])) parts.0 (every_push test ys x parts.1 here)
 
+-- an element that is added, or not, passes where it is added
+pub every_added : {A : Type 0} (test : A → Bool) (xs : List A) (x : A) (added : Bool) (after : List A)
+    → after ≡ cond added (xs ++ x ∷ []) xs → every test xs ≡ true → (added ≡ true → test x ≡ true)
+    → every test after ≡ true
+every_added test xs x true after grown all here = ap (every test) grown ∙ every_push test xs x all (here refl)
+every_added test xs x false after grown all here = ap (every test) grown ∙ all
+
 pub every_weaker : {A : Type 0} (test weaker : A → Bool) → ((x : A) → test x ≡ true → weaker x ≡ true)
     → (xs : List A) → every test xs ≡ true → every weaker xs ≡ true
 every_weaker test weaker step [] all = refl

@@ -11,6 +11,6 @@ pub mod road_plan;
 mod travel;
 
 pub use parts::{Closure, Segment, Setting, Settings};
-pub use refusals::{Fault, PlanError, Refusal};
+pub use refusals::{Fault, PlanError, Refusal, Section};
 pub use road_plan::Plan;
 pub use travel::class_speed;

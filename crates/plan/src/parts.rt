@@ -21,7 +21,7 @@ pub struct Segment {
 }
 
 // The segment is closed in the slots from `first` to the one before `end`.
-#[derive(Clone, Copy, PartialEq, Eq, Debug)]
+#[derive(Clone, Copy, PartialEq, Eq, Debug, Default)]
 pub struct Closure {
     pub segment: u16,
     pub first: u16,

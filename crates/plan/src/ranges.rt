@@ -1,4 +1,5 @@
-// Whether a part of a plan is within its ranges.
+// Whether a part of a plan is within its ranges. An answer is what the first broken rule says, or none, as `first_broken` of
+// the rules is; a `Result` with nothing in `Ok` would be no plainer.
 ghost use Rattle.std.specs.Prelude.{◌≡◌};
 ghost use Rattle.plan.specs.Ranges.{closure_rules, joined, measured, segment_rules, settings_rules};
 ghost use Rattle.plan.specs.Rules.{first_broken};
@@ -6,53 +7,55 @@ ghost use Rattle.plan.specs.Rules.{first_broken};
 use crate::limits::{MOST_CLASS, MOST_JUNCTIONS, MOST_SLOTS, MOST_TRAVEL};
 use crate::parts::{Closure, Segment, Setting, Settings};
 use crate::refusals::Refusal;
-use crate::travel::travel_of;
 
 // The first setting that is out of its range. Every `u16` is a density.
+#[tactic(auto, unfolding(crate::specs::Ranges::settings_rules))]
 pub fn setting_out_of_range(settings: Settings) -> Option<Setting>
     ensures { result ≡ first_broken (settings_rules settings) }
 {
     if settings.slot_length == 0 {
         return Some(Setting::SlotLength);
     }
-    if settings.horizon == 0 || settings.horizon > MOST_SLOTS {
+    if !(1..=MOST_SLOTS).contains(&settings.horizon) {
         return Some(Setting::Horizon);
     }
-    if settings.junctions < 2 || settings.junctions > MOST_JUNCTIONS {
+    if !(2..=MOST_JUNCTIONS).contains(&settings.junctions) {
         return Some(Setting::Junctions);
     }
     None
 }
 
-// Start and end are two known junctions.
-fn joins(settings: Settings, segment: Segment) -> bool
-    ensures { result ≡ joined settings segment }
-{
-    segment.start < settings.junctions
-        && segment.end < settings.junctions
-        && segment.start != segment.end
-}
+impl Segment {
+    // Start and end are two known junctions.
+    fn is_joined(self, settings: Settings) -> bool
+        ensures { result ≡ joined settings self }
+    {
+        self.start < settings.junctions && self.end < settings.junctions && self.start != self.end
+    }
 
-fn measures(segment: Segment) -> bool
-    ensures { result ≡ measured segment }
-{
-    segment.length > 0 && segment.lanes > 0 && segment.class <= MOST_CLASS
+    fn is_measured(self) -> bool
+        ensures { result ≡ measured self }
+    {
+        self.length > 0 && self.lanes > 0 && self.class <= MOST_CLASS
+    }
 }
 
 // Why a segment cannot stand in a plan with these settings.
+#[tactic(auto, unfolding(crate::specs::Ranges::segment_rules))]
 pub fn segment_refusal(settings: Settings, segment: Segment) -> Option<Refusal>
     ensures { result ≡ first_broken (segment_rules settings segment) }
 {
-    if !joins(settings, segment) || !measures(segment) {
+    if !segment.is_joined(settings) || !segment.is_measured() {
         return Some(Refusal::SegmentOutOfRange);
     }
-    if travel_of(settings, segment) > MOST_TRAVEL {
+    if segment.travel_slots(settings) > MOST_TRAVEL {
         return Some(Refusal::TravelTooLong);
     }
     None
 }
 
 // Why a closure cannot stand in a plan with these settings and so many segments.
+#[tactic(auto, unfolding(crate::specs::Ranges::closure_rules))]
 pub fn closure_refusal(settings: Settings, segments: u16, closure: Closure) -> Option<Refusal>
     ensures { result ≡ first_broken (closure_rules settings segments closure) }
 {

@@ -1,6 +1,6 @@
 -- Adding the records of a checked section to a plan, one after the other: none is refused.
 use Rattle.std.proofs.Common.{◌≡◌, ◌+◌, ◌≤◌, true, ltb, List, [], ◌∷◌, length, None, sym, ap, ◌∙◌, subst, arith}
-use Rattle.std.proofs.lemmas.List.{append_assoc, append-nil, length-append}
+use Rattle.std.proofs.lemmas.List.{append_assoc, length-append}
 use Rattle.std.proofs.lemmas.Bool.{and_parts, cond-true, lt-ltb}
 use Rattle.plan.specs.Content.{Content, closure_addition, segment_addition, with_closure, with_segment}
 use Rattle.plan.specs.Limits.{most_closures, most_segments}
@@ -45,13 +45,6 @@ module _ (start : Content) (whole : List Segment) (c : Content) (g : Segment) (l
             ∙ all.same;
       }
 
-pub segments_done : (start : Content) (whole : List Segment) (c : Content) (left : List Segment)
-    → SegmentsLeft start whole c left → left ≡ [] → c ≡ with_segments start whole
-segments_done start whole c left all none =
-    ap (λ gs. record { settings = c.settings; segments = gs; closures = c.closures }) (sym (append-nil c.segments))
-    ∙ ap (with_segments c) (sym none)
-    ∙ all.same
-
 -- the same of closures
 pub record ClosuresLeft (start : Content) (whole : List Closure) (c : Content) (left : List Closure) : Type 0 where
   pub fit : closures_fit c.settings (length c.segments) left ≡ true
@@ -88,10 +81,3 @@ module _ (start : Content) (whole : List Closure) (c : Content) (k : Closure) (l
             (append_assoc c.closures (k ∷ []) left)
             ∙ all.same;
       }
-
-pub closures_done : (start : Content) (whole : List Closure) (c : Content) (left : List Closure)
-    → ClosuresLeft start whole c left → left ≡ [] → c ≡ with_closures start whole
-closures_done start whole c left all none =
-    ap (λ ks. record { settings = c.settings; segments = c.segments; closures = ks }) (sym (append-nil c.closures))
-    ∙ ap (with_closures c) (sym none)
-    ∙ all.same

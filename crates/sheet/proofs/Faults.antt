@@ -1,6 +1,7 @@
 -- The first fault of a sheet by its parts: the head, the settings, the segments, the closures.
-use Rattle.std.proofs.Common.{◌≡◌, ℕ, ◌+◌, ◌/◌, List, ◌++◌, length, Some, None, sym, ap, ◌∙◌, arith}
+use Rattle.std.proofs.Common.{◌≡◌, ℕ, ◌+◌, ◌/◌, List, ◌++◌, length, Some, None, Option, Ok, Err, sym, refl, ap, ◌∙◌, arith}
 use Rattle.std.specs.Option.{option_map}
+use Rattle.std.specs.Result.{result_err}
 use Rattle.plan.specs.Ranges.{settings_rules}
 use Rattle.plan.specs.Rules.{Rule, first_broken, saying}
 use Rattle.plan.specs.declared.parts.Setting.{Setting}
@@ -11,13 +12,26 @@ use Rattle.sheet.specs.Format.{closure_layout, closures_pair, decode, extent, of
 use Rattle.sheet.specs.Laid.{Laid}
 use Rattle.sheet.specs.Records.{told_all}
 use Rattle.sheet.specs.Splits.{Split, sections_content}
-use Rattle.sheet.specs.Verdict.{closures_rules, content_rules, head_rules, segments_rules, setting_fault, sheet_fault}
+use Rattle.sheet.specs.Verdict.{closures_rules, content_rules, head_rules, passed, segments_rules, setting_fault, sheet_fault}
 use Rattle.sheet.proofs.Heads.{laid_from_rules}
 use Rattle.sheet.proofs.RoundTrips.{length_segments_part, segments_count}
 
 pub head_found : (bytes : List ℕ) (f : Fault) → first_broken (head_rules bytes) ≡ Some f → sheet_fault bytes ≡ Some f
 unfolding sheet_fault
 head_found bytes f found = broken_first (head_rules bytes) _ f found
+
+-- a check that passes, or says the fault, by its rules
+pub passed_none : (o : Option Fault) → passed o ≡ Ok tt → o ≡ None
+passed_none None ok = refl
+passed_none (Some f) ok = absurd (let z : ◌≡◌ {A = ℕ} 0 1 = cc in omega arith)
+
+pub passed_some : (o : Option Fault) (f : Fault) → passed o ≡ Err f → o ≡ Some f
+passed_some None f err = absurd (let z : ◌≡◌ {A = ℕ} 0 1 = cc in omega arith)
+passed_some (Some g) f err = cc
+
+pub passed_err : (o : Option Fault) → result_err (passed o) ≡ o
+passed_err None = refl
+passed_err (Some f) = refl
 
 module _ (bytes : List ℕ) (s : Sections) (split : Split bytes s) where
   laid : Laid bytes

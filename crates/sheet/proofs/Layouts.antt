@@ -9,7 +9,6 @@ use Rattle.plan.specs.declared.parts.Closure.{Closure}
 use Rattle.plan.specs.declared.parts.Segment.{Segment}
 use Rattle.plan.specs.declared.parts.Settings.{Settings}
 use Rattle.sheet.specs.Format.{closure_layout, segment_layout, settings_layout}
-use Rattle.sheet.specs.Records.{Layout}
 use Rattle.sheet.proofs.Packing.{Narrow}
 use Rattle.sheet.proofs.RecordLists.{Faithful}
 
@@ -45,9 +44,6 @@ all_from_every test P step [] passed = tt
 all_from_every test P step (x ∷ xs) passed =
     let parts = and_parts (test x) (every test xs) passed in
     (step x parts.0, all_from_every test P step xs parts.1)
-
-abbrev FitsWidths : {A : Type 0} → Layout A → A → Type 0
-FitsWidths layout a = Narrow layout.widths (layout.values a)
 
 pub settings_narrow : (s : Settings) → settings_fit s ≡ true → Narrow settings_layout.widths (settings_layout.values s)
 unfolding settings_fit settings_rules

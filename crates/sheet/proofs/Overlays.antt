@@ -1,39 +1,13 @@
 -- Bytes written over a memory.
-use Rattle.std.proofs.Common.{◌≡◌, ℕ, ◌+◌, ◌/◌, ◌%◌, ◌<◌, ◌≤◌, List, [], ◌∷◌, ◌++◌, length, get_or, take, drop, set, sym, refl, ap, ◌∙◌, ap₂, add-zero, add-one, arith}
-use Rattle.std.proofs.lemmas.List.{append_assoc, append-nil, drop_at, drop-drop, drop-set, length-append, length-drop, length_push, length-take-le, take_all, take-append-drop, take_at, take_more, take-set-le}
+use Rattle.std.proofs.Common.{◌≡◌, ℕ, ◌+◌, ◌<◌, ◌≤◌, List, [], ◌∷◌, ◌++◌, length, get_or, take, drop, sym, refl, ap, ◌∙◌, ap₂, add-zero, arith}
+use Rattle.std.proofs.lemmas.List.{append_assoc, append-nil, drop_at, drop-drop, length-append, length-take-le, take_all, take-append-drop, take_at, take_more}
 use Rattle.std.specs.List.{flat_map}
-use Rattle.sheet.specs.Numbers.{big_endian}
 use Rattle.sheet.specs.Writes.{over}
-use Rattle.sheet.proofs.BigEndian.{length_big_endian}
 
 pub over_none : (memory : List ℕ) (place : ℕ) → over memory place [] ≡ memory
 unfolding over
 over_none memory place =
     ap (λ n. take place memory ++ drop n memory) (add-zero place) ∙ take-append-drop place memory
-
--- a byte stored behind what is still to be written
-pub over_stored : (memory : List ℕ) (place left : ℕ) (bytes : List ℕ) (b : ℕ) → length bytes ≡ left
-    → place + left < length memory → over (set memory (place + left) b) place bytes ≡ over memory place (bytes ++ (b ∷ []))
-unfolding over
-over_stored memory place left bytes b long within =
-    let at = place + left in
-    let front : take place (set memory at b) ≡ take place memory = take-set-le place memory at b (omega arith) in
-    let back : drop (place + length bytes) (set memory at b) ≡ b ∷ drop (at + 1) memory =
-    ap (λ n. drop (place + n) (set memory at b)) long ∙ drop-set memory at b within in
-    let behind : at + 1 ≡ place + length (bytes ++ (b ∷ [])) = omega (arith, length_push bytes b) in
-    ap₂ (λ xs ys. xs ++ (bytes ++ ys)) front back
-    ∙ ap (λ ys. take place memory ++ ys)
-    (sym (append_assoc bytes (b ∷ []) (drop (at + 1) memory)) ∙ ap (λ n. (bytes ++ (b ∷ [])) ++ drop n memory) behind)
-
-pub length_over : (memory : List ℕ) (place : ℕ) (bytes : List ℕ) → place + length bytes ≤ length memory
-    → length (over memory place bytes) ≡ length memory
-unfolding over
-length_over memory place bytes within =
-    let front = length-take-le place memory (omega arith) in
-    let back = length-drop (place + length bytes) memory in
-    let all = length-append (take place memory) (bytes ++ drop (place + length bytes) memory) in
-    let rest = length-append bytes (drop (place + length bytes) memory) in
-    omega (arith, front, back, all, rest)
 
 -- written one after the other
 pub over_over : (memory : List ℕ) (place : ℕ) (first second : List ℕ)
@@ -59,14 +33,6 @@ over_over memory place first second within =
     ap₂ (λ xs ys. xs ++ (second ++ ys)) front back
     ∙ append_assoc start first (second ++ drop (place + length (first ++ second)) memory)
     ∙ ap (λ ys. start ++ ys) (sym (append_assoc first second (drop (place + length (first ++ second)) memory)))
-
--- the lowest byte of a number goes behind the others
-pub over_digit : (memory : List ℕ) (place left n : ℕ) → place + left < length memory
-    → over (set memory (place + left) (n % 256)) place (big_endian left (n / 256))
-    ≡ over memory place (big_endian (left + 1) n)
-over_digit memory place left n within =
-    over_stored memory place left (big_endian left (n / 256)) (n % 256) (length_big_endian left (n / 256)) within
-    ∙ ap (λ w. over memory place (big_endian w n)) (sym (add-one left))
 
 -- the bytes of a list's elements, one after the other
 module _ {X : Type 0} (bytes_of : X → List ℕ) where

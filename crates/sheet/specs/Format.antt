@@ -15,6 +15,10 @@ abbrev pub head_values : ℕ → ℕ → List ℕ
 head_values segments closures =
     1 ∷ 3 ∷ 26 ∷ 7 ∷ 33 ∷ (6 * segments) ∷ (33 + 6 * segments) ∷ (5 * closures) ∷ []
 
+-- a number of four bytes
+abbrev pub number_layout : Layout ℕ
+number_layout = record { widths = 4 ∷ []; values = λ n. n ∷ []; made = λ vs. slice_index vs 0 }
+
 abbrev pub settings_layout : Layout Settings
 settings_layout = record {
   widths = 2 ∷ 2 ∷ 2 ∷ 1 ∷ [];

@@ -6,5 +6,4 @@ pub mod Verdict
 pub mod Splits
 pub mod Nexts
 pub mod Reads
-pub mod Fields
 pub mod Writes

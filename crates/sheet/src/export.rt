@@ -10,8 +10,7 @@ const PLACES: u64 = 4_294_967_296;
 pub fn road_sheet_check(bytes: &[u8]) -> u64
     ensures { result ≡ fault_code (sheet_fault bytes.now) }
 {
-    match check(bytes) {
-        Some(fault) => fault.refusal.number() as u64 * PLACES + fault.place as u64,
-        None => 0,
-    }
+    check(bytes).map_or(0, |fault| {
+        fault.refusal.number() as u64 * PLACES + fault.place as u64
+    })
 }

@@ -3,7 +3,6 @@
 
 mod checking;
 pub mod export;
-mod fields;
 mod format;
 mod head;
 mod reading;

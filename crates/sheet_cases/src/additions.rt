@@ -1,5 +1,5 @@
 // Plans begun with settings and extended by single additions.
-use plan::{Closure, Plan, PlanError, Segment, Settings};
+use plan::{Closure, Fault, Plan, PlanError, Segment, Settings};
 use std::alloc::Global;
 use std::test::Fail;
 
@@ -31,66 +31,70 @@ fn begun(heap: Global) -> Result<Plan, Fail> {
     }
 }
 
-fn number_of_segment(plan: &mut Plan, segment: Segment) -> u8 {
-    match plan.add_segment(segment) {
-        Ok(_) => 0,
-        Err(fault) => fault.refusal.number(),
-    }
+// The number of the refusal, where there is one.
+fn refused<T: Drop>(added: Result<T, Fault>) -> Option<u8> {
+    added.err().map(|fault| fault.refusal.number())
 }
 
-fn number_of_closure(plan: &mut Plan, closure: Closure) -> u8 {
-    match plan.add_closure(closure) {
-        Ok(_) => 0,
-        Err(fault) => fault.refusal.number(),
-    }
-}
-
-fn number_of_settings(heap: Global, settings: Settings) -> u8 {
+fn settings_refused(heap: Global, settings: Settings) -> Result<Option<u8>, Fail> {
     match Plan::begin(heap, settings) {
-        Ok(_) => 0,
-        Err(PlanError::Refused(fault)) => fault.refusal.number(),
-        Err(PlanError::NoMemory) => 255,
+        Ok(_) => Ok(None),
+        Err(PlanError::Refused(fault)) => Ok(Some(fault.refusal.number())),
+        Err(PlanError::NoMemory) => Err(Fail::new("no memory")),
     }
 }
 
 #[test]
-fn settings(rt: HostRuntime) {
+fn settings(rt: HostRuntime) -> Result<(), Fail> {
     let heap = rt.alloc();
-    assert_eq!(rt; number_of_settings(heap, SETTINGS), 0);
-    let mut settings = SETTINGS;
-    settings.slot_length = 0;
-    assert_eq!(rt; number_of_settings(heap, settings), 5);
-    settings = SETTINGS;
-    settings.horizon = 513;
-    assert_eq!(rt; number_of_settings(heap, settings), 5);
-    settings = SETTINGS;
-    settings.horizon = 512;
-    settings.density = 65_535;
-    settings.junctions = 64;
-    assert_eq!(rt; number_of_settings(heap, settings), 0);
-    settings.junctions = 65;
-    assert_eq!(rt; number_of_settings(heap, settings), 5);
+    assert_eq!(rt; settings_refused(heap, SETTINGS)?, None);
+    let still = Settings {
+        slot_length: 0,
+        ..SETTINGS
+    };
+    assert_eq!(rt; settings_refused(heap, still)?, Some(5));
+    let far = Settings {
+        horizon: 513,
+        ..SETTINGS
+    };
+    assert_eq!(rt; settings_refused(heap, far)?, Some(5));
+    let largest = Settings {
+        horizon: 512,
+        density: 65_535,
+        junctions: 64,
+        ..SETTINGS
+    };
+    assert_eq!(rt; settings_refused(heap, largest)?, None);
+    let wide = Settings {
+        junctions: 65,
+        ..largest
+    };
+    assert_eq!(rt; settings_refused(heap, wide)?, Some(5));
+    Ok(())
 }
 
 #[test]
 fn segments(rt: HostRuntime) -> Result<(), Fail> {
     let mut plan = begun(rt.alloc())?;
-    let mut segment = SEGMENT;
-    segment.end = 4;
-    assert_eq!(rt; number_of_segment(&mut plan, segment), 7);
-    segment.end = 0;
-    assert_eq!(rt; number_of_segment(&mut plan, segment), 7);
-    segment = SEGMENT;
-    segment.class = 16;
-    assert_eq!(rt; number_of_segment(&mut plan, segment), 7);
-    segment = SEGMENT;
-    segment.length = 645;
-    assert_eq!(rt; number_of_segment(&mut plan, segment), 8);
+    let astray = Segment { end: 4, ..SEGMENT };
+    assert_eq!(rt; refused(plan.add_segment(astray)), Some(7));
+    let round = Segment { end: 0, ..SEGMENT };
+    assert_eq!(rt; refused(plan.add_segment(round)), Some(7));
+    let unknown = Segment {
+        class: 16,
+        ..SEGMENT
+    };
+    assert_eq!(rt; refused(plan.add_segment(unknown)), Some(7));
+    let long = Segment {
+        length: 645,
+        ..SEGMENT
+    };
+    assert_eq!(rt; refused(plan.add_segment(long)), Some(8));
     assert_eq!(rt; plan.segment_count(), 0, "a refusal adds nothing");
     for _ in 0..128u8 {
-        assert_eq!(rt; number_of_segment(&mut plan, SEGMENT), 0);
+        assert_eq!(rt; refused(plan.add_segment(SEGMENT)), None);
     }
-    assert_eq!(rt; number_of_segment(&mut plan, segment), 6, "6 before 8");
+    assert_eq!(rt; refused(plan.add_segment(long)), Some(6), "6 before 8");
     assert_eq!(rt; plan.segment_count(), 128);
     Ok(())
 }
@@ -99,21 +103,22 @@ fn segments(rt: HostRuntime) -> Result<(), Fail> {
 fn closures(rt: HostRuntime) -> Result<(), Fail> {
     let mut plan = begun(rt.alloc())?;
     assert_eq!(rt;
-        number_of_closure(&mut plan, CLOSURE),
-        9,
+        refused(plan.add_closure(CLOSURE)),
+        Some(9),
         "an unknown segment"
     );
-    assert_eq!(rt; number_of_segment(&mut plan, SEGMENT), 0);
-    let mut closure = CLOSURE;
-    closure.first = 20;
-    assert_eq!(rt; number_of_closure(&mut plan, closure), 9);
-    closure = CLOSURE;
-    closure.end = 21;
-    assert_eq!(rt; number_of_closure(&mut plan, closure), 9);
+    assert_eq!(rt; refused(plan.add_segment(SEGMENT)), None);
+    let empty = Closure {
+        first: 20,
+        ..CLOSURE
+    };
+    assert_eq!(rt; refused(plan.add_closure(empty)), Some(9));
+    let late = Closure { end: 21, ..CLOSURE };
+    assert_eq!(rt; refused(plan.add_closure(late)), Some(9));
     for _ in 0..16u8 {
-        assert_eq!(rt; number_of_closure(&mut plan, CLOSURE), 0);
+        assert_eq!(rt; refused(plan.add_closure(CLOSURE)), None);
     }
-    assert_eq!(rt; number_of_closure(&mut plan, CLOSURE), 6);
+    assert_eq!(rt; refused(plan.add_closure(CLOSURE)), Some(6));
     assert_eq!(rt; plan.closure_count(), 16);
     Ok(())
 }
@@ -131,12 +136,11 @@ const WORKED: [(u16, u8, u8); 6] = [
 #[test]
 fn worked_values(rt: HostRuntime) -> Result<(), Fail> {
     let mut plan = begun(rt.alloc())?;
-    for (number, row) in WORKED.iter().enumerate() {
-        let mut segment = SEGMENT;
-        segment.length = row.0;
-        assert_eq!(rt; number_of_segment(&mut plan, segment), 0);
-        assert_eq!(rt; plan.travel_slots(number as u16), Some(row.1));
-        assert_eq!(rt; plan.critical_count(number as u16), Some(row.2));
+    for (number, (length, travel, critical)) in (0u16..6).zip(WORKED) {
+        let segment = Segment { length, ..SEGMENT };
+        assert_eq!(rt; refused(plan.add_segment(segment)), None);
+        assert_eq!(rt; plan.travel_slots(number), Some(travel));
+        assert_eq!(rt; plan.critical_count(number), Some(critical));
     }
     assert_eq!(rt; plan.travel_slots(6), None);
     assert_eq!(rt; plan.critical_count(6), None);

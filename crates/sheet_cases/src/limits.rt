@@ -4,13 +4,6 @@ use std::alloc::{AllocError, Global};
 use std::process::Abort;
 use std::test::Fail;
 
-fn push_four(bytes: &mut Vec<u8>, value: u32) -> Result<(), AllocError> {
-    for byte in value.to_be_bytes() {
-        bytes.push(byte)?;
-    }
-    Ok(())
-}
-
 // Slots of 65,535 ms, density 65,535, horizon 512, 64 junctions; every segment runs from 62 to 63 with 65,535 m, 255
 // lanes and class 15, every closure covers the last slot of segment 127.
 fn largest(heap: Global, segments: u32, closures: u32) -> Result<Vec<u8>, AllocError> {
@@ -18,9 +11,9 @@ fn largest(heap: Global, segments: u32, closures: u32) -> Result<Vec<u8>, AllocE
     let closures_extent = closures.saturating_mul(5);
     let mut bytes = Vec::new(heap);
     bytes.extend_from_slice(&[1, 3, 0, 0, 0, 26, 0, 0, 0, 7, 0, 0, 0, 33])?;
-    push_four(&mut bytes, segments_extent)?;
-    push_four(&mut bytes, segments_extent.saturating_add(33))?;
-    push_four(&mut bytes, closures_extent)?;
+    bytes.extend_from_slice(&segments_extent.to_be_bytes())?;
+    bytes.extend_from_slice(&segments_extent.saturating_add(33).to_be_bytes())?;
+    bytes.extend_from_slice(&closures_extent.to_be_bytes())?;
     bytes.extend_from_slice(&[255, 255, 255, 255, 2, 0, 64])?;
     for _ in 0..segments {
         bytes.extend_from_slice(&[62, 63, 255, 255, 255, 15])?;
@@ -42,7 +35,7 @@ fn is_fault(
         return Err(Fail::new("no fault"));
     };
     assert_eq!(rt; fault.refusal.number(), number);
-    assert_eq!(rt; fault.section, section);
+    assert_eq!(rt; fault.section.number(), section);
     assert_eq!(rt; fault.place, place);
     Ok(())
 }

@@ -35,7 +35,7 @@ fn memory_of_that_size(rt: HostRuntime) -> Result<(), Fail> {
         return Err(Fail::new("written"));
     };
     assert_eq!(rt; fault.refusal.number(), 10);
-    assert_eq!(rt; fault.section, 0);
+    assert_eq!(rt; fault.section.number(), 0);
     assert_eq!(rt; fault.place, 0);
     assert!(rt; short == [170u8; 61]);
     Ok(())

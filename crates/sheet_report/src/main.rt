@@ -2,7 +2,6 @@
 #![tactic(auto)]
 
 mod input;
-mod names;
 mod report;
 
 use anyhow::anyhow;
@@ -14,10 +13,9 @@ use report::{print_fault, print_plan};
 const MOST_BYTES: usize = 1024;
 
 fn run(rt: &HostRuntime) -> anyhow::Result<()> {
-    let mut memory = [0u8; MOST_BYTES];
-    let count = read_start(rt, "plan.bin", &mut memory)?;
-    match sheet::read(rt.alloc(), &memory[0..count]) {
-        Ok(plan) => print_plan(rt, &plan, count)?,
+    let bytes = read_start(rt, "plan.bin", MOST_BYTES)?;
+    match sheet::read(rt.alloc(), &bytes) {
+        Ok(plan) => print_plan(rt, &plan, bytes.len())?,
         Err(PlanError::Refused(fault)) => print_fault(rt, fault)?,
         Err(PlanError::NoMemory) => return Err(anyhow!("no memory for the plan")),
     }

@@ -1,6 +1,5 @@
 // A plan in columns, or a fault in a line.
-use crate::names::name;
-use plan::{Fault, Plan, class_speed};
+use plan::{Fault, Plan, Segment, class_speed};
 use std::io;
 
 fn print_settings(rt: &impl Print, plan: &Plan) -> io::Result<()> {
@@ -15,12 +14,11 @@ fn print_settings(rt: &impl Print, plan: &Plan) -> io::Result<()> {
     println!(rt; "  junctions   {:>7}", settings.junctions)
 }
 
-fn print_segment(rt: &impl Print, plan: &Plan, number: u16) -> io::Result<()> {
-    let Some(segment) = plan.segment(number) else {
+fn print_segment(rt: &impl Print, plan: &Plan, number: u16, segment: Segment) -> io::Result<()> {
+    let (Some(travel), Some(critical)) = (plan.travel_slots(number), plan.critical_count(number))
+    else {
         return Ok(());
     };
-    let travel = plan.travel_slots(number).unwrap_or(0);
-    let critical = plan.critical_count(number).unwrap_or(0);
     print!(rt;
         "{number:>7}{:>7}{:>7}{:>10}",
         segment.start, segment.end, segment.length
@@ -33,8 +31,8 @@ fn print_segments(rt: &impl Print, plan: &Plan) -> io::Result<()> {
     println!(rt;
         "Segment  start    end  length m  lanes  speed cm/s  travel slots  critical count"
     )?;
-    for number in 0..plan.segment_count() {
-        print_segment(rt, plan, number)?;
+    for (number, segment) in (0..plan.segment_count()).zip(plan.segments()) {
+        print_segment(rt, plan, number, *segment)?;
     }
     Ok(())
 }
@@ -52,20 +50,16 @@ fn print_closures(rt: &impl Print, plan: &Plan) -> io::Result<()> {
 
 // How many metres the segments have together.
 fn total_length(plan: &Plan) -> u64 {
-    let mut total = 0u64;
-    for segment in plan.segments() {
-        total = total.saturating_add(segment.length as u64);
-    }
-    total
+    plan.segments().iter().fold(0u64, |total, segment| {
+        total.saturating_add(segment.length as u64)
+    })
 }
 
 // How many slots the closures cover together, a slot that two cover counted twice.
 fn total_closed(plan: &Plan) -> u64 {
-    let mut total = 0u64;
-    for closure in plan.closures() {
-        total = total.saturating_add(closure.end.saturating_sub(closure.first) as u64);
-    }
-    total
+    plan.closures().iter().fold(0u64, |total, closure| {
+        total.saturating_add(closure.end.saturating_sub(closure.first) as u64)
+    })
 }
 
 pub(crate) fn print_plan(rt: &impl Print, plan: &Plan, bytes: usize) -> io::Result<()> {
@@ -88,9 +82,9 @@ pub(crate) fn print_plan(rt: &impl Print, plan: &Plan, bytes: usize) -> io::Resu
 
 pub(crate) fn print_fault(rt: &impl Print, fault: Fault) -> io::Result<()> {
     let number = fault.refusal.number();
-    let words = name(fault.refusal);
+    let section = fault.section.number();
     println!(rt;
-        "Refused: {number} {words}, section {}, place {}",
-        fault.section, fault.place
+        "Refused: {number} {}, section {section}, place {}",
+        fault.refusal, fault.place
     )
 }

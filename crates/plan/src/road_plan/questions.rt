@@ -1,12 +1,11 @@
-// What a plan tells. No question changes it.
+// What a plan tells. No question changes it. Segments and closures are asked for in like words: each body is one call of
+// the library, and what they shared would be longer.
 ghost use Rattle.std.specs.Prelude.{◌≡◌, length};
 ghost use Rattle.std.specs.List.{slice_get};
 ghost use Rattle.plan.specs.Content.{Fits, content, critical_at, travel_at};
 
 use super::Plan;
-use crate::critical::critical_of;
 use crate::parts::{Closure, Segment, Settings};
-use crate::travel::travel_of;
 
 impl Plan {
     pub fn settings(&self) -> Settings
@@ -59,7 +58,7 @@ impl Plan {
         ensures { result ≡ travel_at (content self.now) number }
     {
         let segment = self.segment(number)?;
-        Some(travel_of(self.settings, segment) as u8)
+        Some(segment.travel_slots(self.settings) as u8)
     }
 
     // How many carriers the segment may carry at once.
@@ -67,6 +66,6 @@ impl Plan {
         ensures { result ≡ critical_at (content self.now) number }
     {
         let segment = self.segment(number)?;
-        Some(critical_of(self.settings, segment))
+        Some(segment.critical_count(self.settings))
     }
 }

@@ -1,5 +1,6 @@
-use Rattle.std.proofs.Common.{◌≡◌, ℕ, sym, ◌∙◌, arith}
-use Rattle.sheet.proofs.Faults.{head_found}
+use Rattle.std.proofs.Common.{◌≡◌, ℕ, sym, ap, ◌∙◌, arith}
+use Rattle.std.specs.Result.{result_err}
+use Rattle.sheet.proofs.Faults.{head_found, passed_err}
 use Rattle.sheet.proofs.Readings.{faultless_sheet, sheet_faultless}
 use Rattle.sheet.proofs.checking.check.Goals as goal
 
@@ -17,7 +18,7 @@ pub returns-in-Ok : goal.returns-in-Ok
 returns-in-Ok c =
     let bytes = c.args.bytes.now in
     let split = c.in-Ok.ensures in
-    let found = c.sections_fault.ensures bytes split in
+    let found = c.err.ensures.value ∙ ap result_err (c.check_sections.ensures bytes split) ∙ passed_err _ in
     record {
       first = found;
       accepts = λ none. faultless_sheet bytes split.bytes_fit (sym found ∙ none);

@@ -1,24 +1,23 @@
-use Rattle.std.proofs.Common.{◌≡◌, true, None, vec_items, vec_len, arith, rules}
-use Rattle.plan.specs.Ranges.{closures_fit, segment_rules, segments_fit}
-use Rattle.plan.specs.Rules.{first_broken}
-use Rattle.plan.proofs.Adding.{closures_fit_among_more, segments_fit_push}
+use Rattle.std.proofs.Common.{◌≡◌, true, is_ok, vec_items, vec_len, sym, ◌∙◌, arith}
+use Rattle.plan.specs.Ranges.{closures_fit, segments_fit}
+use Rattle.plan.proofs.Adding.{closures_fit_among_more, segments_fit_added}
 use Rattle.plan.proofs.road_plan.Plan.add_segment.Goals as goal
 
 pub invariant_of-self : goal.invariant_of-self
 invariant_of-self c =
     let plan = c.args.self.now in
-    let after = c.push_reserved.new.self in
-    let none : first_broken (segment_rules plan.settings c.args.segment) ≡ None = search rules in
-    let pushed = segments_fit_push plan.settings _ c.args.segment plan.segments_in_range none in
-    let segments : segments_fit plan.settings (vec_items after) ≡ true = rw c.push_reserved.ensures.items pushed in
+    let after = c.add.new.parts in
+    let segments : segments_fit plan.settings (vec_items after) ≡ true =
+    segments_fit_added plan.settings _ c.args.segment (is_ok c.add.result) _ c.add.ensures.grown plan.segments_in_range
+    (λ ok. sym c.segment_refusal-refusal.ensures ∙ c.add.ensures.taken ok) in
     let closures : closures_fit plan.settings (vec_len after) (vec_items plan.closures) ≡ true =
-    closures_fit_among_more plan.settings (vec_len plan.segments) _ (omega arith) _ plan.closures_in_range in
+    closures_fit_among_more plan.settings (vec_len plan.segments) _ c.add.ensures.more _ plan.closures_in_range in
     record {
       settings_in_range = plan.settings_in_range;
       segments_in_range = segments;
       closures_in_range = closures;
-      few_segments = omega arith;
-      few_closures = omega arith;
+      few_segments = c.add.ensures.few plan.few_segments;
+      few_closures = plan.few_closures;
       segment_room = omega arith;
-      closure_room = omega arith;
+      closure_room = plan.closure_room;
     }

@@ -1,22 +1,8 @@
 use Rattle.std.proofs.Common.{◌≡◌, None, refl, arith, rules}
-use Rattle.std.proofs.lemmas.Result.{err_from_is_err_and}
 use Rattle.plan.specs.Ranges.{closures_fit, segments_fit, settings_fit, settings_rules}
 use Rattle.plan.specs.Rules.{first_broken}
 use Rattle.plan.proofs.Ruling.{all_kept}
 use Rattle.plan.proofs.road_plan.Plan.begin.Goals as goal
-
-pub returns-in_err-segments : goal.returns-in_err-segments
-returns-in_err-segments c =
-    let none : first_broken (settings_rules c.args.settings) ≡ None = search rules in
-    let error = err_from_is_err_and c.from_residual.result c.from_residual.ensures.1 in
-    rw (error.1, error.2) none
-
-pub returns-in_err-closures : goal.returns-in_err-closures
-returns-in_err-closures c =
-    let none : first_broken (settings_rules c.args.settings) ≡ None = search rules in
-    let result = c.from_residual-in_err-closures.result in
-    let error = err_from_is_err_and result c.from_residual-in_err-closures.ensures.1 in
-    rw (error.1, error.2) none
 
 pub invariant_of-result : goal.invariant_of-result
 unfolding settings_fit segments_fit closures_fit
