@@ -1,15 +1,18 @@
 -- Whole lines: one call at most, one column at most, and the bytes that decide.
-use Rattle.std.proofs.Common.{◌≡◌, ℕ, suc, ◌-◌, ◌<◌, ◌≤◌, cond, eqb, List, [], ◌∷◌, ◌++◌, length, get_or, take, drop, Ok, Err, Result, sym, refl, ap, ◌∙◌, subst, ⊎_elim, arith}
-use Rattle.std.specs.List.{AllByRecursion}
-use Rattle.std.proofs.lemmas.List.{append_assoc, length-append, length-take, length-take-le, take_all, take-append-drop, take-take}
+use Rattle.std.proofs.Common.{◌≡◌, ℕ, suc, ◌-◌, ◌<◌, ◌≤◌, cond, eqb, List, [], ◌∷◌, ◌++◌, length, get_or, take, drop, Ok, Err, MatchResult, Result, sym, refl, ap, ◌∙◌, subst, ⊎_elim, arith}
+use Rattle.std.proofs.lemmas.List.{append_assoc, length-append, length-take, length-take-le, nil_from_length, take_all, take-append-drop, take-take}
+use Rattle.std.specs.Result.{IsOkAnd}
 use Rattle.std.proofs.lemmas.Bool.{cases_lt, cases_order}
 use Rattle.call_lines.specs.Grammar.{Digit, Spaced, Spells, letter, numbers}
 use Rattle.call_lines.specs.Parsing.{Answers, Breaks, Continues, Parses, deciding}
-use Rattle.call_lines.specs.Stops.{GoesOn, StopsAt}
-use Rattle.call_lines.specs.Words.{Run}
+use Rattle.call_lines.specs.Stops.{GoesOn, Reads, StopsAt}
+use Rattle.call_lines.specs.Words.{Begins, column_of}
 use Rattle.call_lines.specs.declared.calls.LineCall.{LineCall}
 use Rattle.call_lines.specs.declared.calls.LineCall.TheVariants as call
 use Rattle.call_lines.specs.declared.words.Rest.{Rest}
+use Rattle.call_lines.specs.declared.words.Word.{Word}
+use Rattle.call_lines.specs.declared.words.Word.TheVariants.{Letter}
+use Rattle.call_lines.proofs.Reading.{letter_first, word_at}
 use Rattle.call_lines.proofs.Spacing.{spaced_length, spaced_unique}
 
 -- a call by its letter and its numbers
@@ -35,83 +38,43 @@ spells_unique line c d one other =
     spaced_unique (numbers c) (numbers d) other.0 (subst (Spaced (numbers c)) same_rest one.2) other.2 in
     sym (rebuilt_is c) ∙ (λ j. rebuilt (same_letter j) (same_numbers j)) ∙ rebuilt_is d
 
--- the calls of a letter are those with so many numbers
-pub record Counts (l count : ℕ) : Type 0 where
-  pub makes : (ns : List ℕ) → length ns ≡ count → (c : LineCall) × (letter c ≡ l) × (numbers c ≡ ns)
-  pub counts : (c : LineCall) → letter c ≡ l → length (numbers c) ≡ count
+-- how many numbers a letter goes with
+abbrev count_of : ℕ → ℕ
+count_of l = cond (eqb l 82) 3 (cond (eqb l 76) 0 1)
 
-makes_request :
-    (ns : List ℕ) → length ns ≡ 3 → (c : LineCall) × (letter c ≡ 82) × (numbers c ≡ ns)
-makes_request [] long = absurd (omega arith)
-makes_request (a ∷ []) long = absurd (omega arith)
-makes_request (a ∷ b ∷ []) long = absurd (omega arith)
-makes_request (a ∷ b ∷ c ∷ []) long = (call.Request a b c, refl, refl)
-makes_request (a ∷ b ∷ c ∷ d ∷ ds) long = absurd (omega arith)
+counted : (c : LineCall) → length (numbers c) ≡ count_of (letter c)
+counted (call.Request origin destination slot) = refl
+counted (call.Confirm number) = refl
+counted (call.Withdraw number) = refl
+counted (call.Arrive number) = refl
+counted call.List = refl
 
-makes_one :
-    (l : ℕ) (made : ℕ → LineCall)
-    → ((n : ℕ) → letter (made n) ≡ l)
-    → ((n : ℕ) → numbers (made n) ≡ n ∷ [])
-    → (ns : List ℕ) → length ns ≡ 1 → (c : LineCall) × (letter c ≡ l) × (numbers c ≡ ns)
-makes_one l made letters only [] long = absurd (omega arith)
-makes_one l made letters only (n ∷ []) long = (made n, letters n, only n)
-makes_one l made letters only (n ∷ m ∷ ms) long = absurd (omega arith)
+one_only : (ns : List ℕ) → length ns ≡ 1 → get_or ns 0 0 ∷ [] ≡ ns
+one_only [] long = absurd (omega arith)
+one_only (a ∷ []) long = refl
+one_only (a ∷ b ∷ ns) long = absurd (omega arith)
 
-makes_list : (ns : List ℕ) → length ns ≡ 0 → (c : LineCall) × (letter c ≡ 76) × (numbers c ≡ ns)
-makes_list [] long = (call.List, refl, refl)
-makes_list (n ∷ ns) long = absurd (omega arith)
+three_only : (ns : List ℕ) → length ns ≡ 3 → get_or ns 0 0 ∷ get_or ns 1 0 ∷ get_or ns 2 0 ∷ [] ≡ ns
+three_only [] long = absurd (omega arith)
+three_only (a ∷ []) long = absurd (omega arith)
+three_only (a ∷ b ∷ []) long = absurd (omega arith)
+three_only (a ∷ b ∷ c ∷ []) long = refl
+three_only (a ∷ b ∷ c ∷ d ∷ ns) long = absurd (omega arith)
 
-request_counts : (c : LineCall) → letter c ≡ 82 → length (numbers c) ≡ 3
-request_counts (call.Request origin destination slot) same = refl
-request_counts (call.Confirm number) same = absurd (omega arith)
-request_counts (call.Withdraw number) same = absurd (omega arith)
-request_counts (call.Arrive number) same = absurd (omega arith)
-request_counts call.List same = absurd (omega arith)
+-- a call with the letter of another and other numbers, as many
+with_numbers :
+    (c : LineCall) (ns : List ℕ)
+    → length ns ≡ length (numbers c) → (d : LineCall) × (letter d ≡ letter c) × (numbers d ≡ ns)
+with_numbers (call.Request origin destination slot) ns long =
+    (call.Request (get_or ns 0 0) (get_or ns 1 0) (get_or ns 2 0), refl, three_only ns long)
+with_numbers (call.Confirm number) ns long = (call.Confirm (get_or ns 0 0), refl, one_only ns long)
+with_numbers (call.Withdraw number) ns long = (call.Withdraw (get_or ns 0 0), refl, one_only ns long)
+with_numbers (call.Arrive number) ns long = (call.Arrive (get_or ns 0 0), refl, one_only ns long)
+with_numbers call.List ns long = (call.List, refl, sym (nil_from_length ns long))
 
-list_counts : (c : LineCall) → letter c ≡ 76 → length (numbers c) ≡ 0
-list_counts (call.Request origin destination slot) same = absurd (omega arith)
-list_counts (call.Confirm number) same = absurd (omega arith)
-list_counts (call.Withdraw number) same = absurd (omega arith)
-list_counts (call.Arrive number) same = absurd (omega arith)
-list_counts call.List same = refl
-
--- a letter that is neither R nor L
-one_counts :
-    (l : ℕ) → (82 ≡ l → ⊥) → (76 ≡ l → ⊥) → (c : LineCall) → letter c ≡ l → length (numbers c) ≡ 1
-one_counts l not_r not_l (call.Request origin destination slot) same = absurd (not_r same)
-one_counts l not_r not_l (call.Confirm number) same = refl
-one_counts l not_r not_l (call.Withdraw number) same = refl
-one_counts l not_r not_l (call.Arrive number) same = refl
-one_counts l not_r not_l call.List same = absurd (not_l same)
-
-pub of_request : Counts 82 3
-of_request = record { makes = makes_request; counts = request_counts }
-
-pub of_confirm : Counts 67 1
-of_confirm = record {
-  makes = makes_one 67 call.Confirm (λ n. refl) (λ n. refl);
-  counts = one_counts 67 (λ same. omega arith) (λ same. omega arith);
-}
-
-pub of_withdraw : Counts 87 1
-of_withdraw = record {
-  makes = makes_one 87 call.Withdraw (λ n. refl) (λ n. refl);
-  counts = one_counts 87 (λ same. omega arith) (λ same. omega arith);
-}
-
-pub of_arrive : Counts 65 1
-of_arrive = record {
-  makes = makes_one 65 call.Arrive (λ n. refl) (λ n. refl);
-  counts = one_counts 65 (λ same. omega arith) (λ same. omega arith);
-}
-
-pub of_list : Counts 76 0
-of_list = record { makes = makes_list; counts = list_counts }
-
-continues_letter :
-    (l count : ℕ) (bytes : List ℕ) → Counts l count → GoesOn count bytes → Continues (l ∷ bytes)
-continues_letter l count bytes of more =
-    let made = of.makes more.1 more.2 in (
+continues_letter : (c : LineCall) (bytes : List ℕ) → GoesOn (length (numbers c)) bytes → Continues (letter c ∷ bytes)
+continues_letter c bytes more =
+    let made = with_numbers c more.1 more.2 in (
       more.0,
       made.0,
       (
@@ -121,20 +84,22 @@ continues_letter l count bytes of more =
       ),
     )
 
--- what spells a call behind its letter
+-- what spells a call behind the letter of a call
 spaced_at_letter :
-    (l count : ℕ) (bytes : List ℕ) (c : LineCall)
-    → Counts l count → Spells (l ∷ bytes) c → (length (numbers c) ≡ count) × Spaced (numbers c) bytes
-spaced_at_letter l count bytes c of spells =
-    let same = spells.1 in
-    let same_letter : letter c ≡ l = cc (same) in
-    let same_rest : spells.0 ≡ bytes = cc (same) in
-    (of.counts c same_letter, subst (Spaced (numbers c)) same_rest spells.2)
+    (c d : LineCall) (bytes : List ℕ)
+    → Spells (letter c ∷ bytes) d → (length (numbers d) ≡ length (numbers c)) × Spaced (numbers d) bytes
+spaced_at_letter c d bytes spells =
+    let same_letter : letter d ≡ letter c = cc spells.1 in
+    let same_rest : spells.0 ≡ bytes = cc spells.1 in (
+      counted d ∙ ap count_of same_letter ∙ sym (counted c),
+      subst (Spaced (numbers d)) same_rest spells.2,
+    )
 
+-- a line that breaks the form behind its letter
 breaks_letter :
-    (l count : ℕ) (rest : List ℕ) (column : ℕ)
-    → Counts l count → StopsAt count rest 2 column → Breaks (l ∷ rest) column
-breaks_letter l count rest column of at =
+    (c : LineCall) (rest : List ℕ) (column : ℕ)
+    → StopsAt (length (numbers c)) rest 2 column → Breaks (letter c ∷ rest) column
+breaks_letter c rest column at =
     let place = at.0 in
     let stops = at.2 in
     let here = at.1 in
@@ -142,57 +107,45 @@ breaks_letter l count rest column of at =
     let before : column - 1 ≡ suc place = omega arith in
     let upto : column ≡ suc (suc place) = omega arith in
     record {
-      none = λ c spells.
-          let spaced = spaced_at_letter l count rest c of spells in
-          stops.none (numbers c) spaced.0 spaced.1;
+      none = λ d spells.
+          let spaced = spaced_at_letter c d rest spells in
+          stops.none (numbers d) spaced.0 spaced.1;
       from_one = omega arith;
       within = omega arith;
       before =
-          subst (λ k. Continues (take k (l ∷ rest))) (sym before)
-          (continues_letter l count (take place rest) of stops.before);
+          subst (λ k. Continues (take k (letter c ∷ rest))) (sym before)
+          (continues_letter c (take place rest) stops.before);
       here = λ inside more.
-          let longer = subst (λ k. Continues (take k (l ∷ rest))) upto more in
-          let spaced = spaced_at_letter l count (take (suc place) rest ++ longer.0) longer.1 of longer.2 in
+          let longer = subst (λ k. Continues (take k (letter c ∷ rest))) upto more in
+          let spaced = spaced_at_letter c longer.1 (take (suc place) rest ++ longer.0) longer.2 in
           stops.here (omega arith) (longer.0, numbers longer.1, spaced.0, spaced.1);
     }
 
--- a line that breaks the form behind its letter
-pub breaks_behind_letter :
-    (l count : ℕ) (line rest : List ℕ) (column : ℕ)
-    → Counts l count → line ≡ l ∷ rest → StopsAt count rest 2 column → Breaks line column
-breaks_behind_letter l count line rest column of joined at =
-    subst (λ k. Breaks k column) (sym joined) (breaks_letter l count rest column of at)
+first_here :
+    (line : List ℕ)
+    → ((rest : List ℕ) (c : LineCall) → line ≡ letter c ∷ rest → ⊥)
+    → 1 ≤ length line → Continues (take 1 line) → ⊥
+first_here [] none inside more = omega arith
+first_here (b ∷ bs) none inside more =
+    let same : b ≡ letter more.1 = cc more.2.1 in
+    none bs more.1 (ap (λ k. k ∷ bs) same)
 
-continues_empty : Continues []
-continues_empty = (76 ∷ [], call.List, ([], refl, refl))
+-- a line that begins with the letter of no call
+breaks_first : (line : List ℕ) → ((rest : List ℕ) (c : LineCall) → line ≡ letter c ∷ rest → ⊥) → Breaks line 1
+breaks_first line none = record {
+  none = λ c spells. none spells.0 c spells.1;
+  from_one = omega arith;
+  within = omega arith;
+  before = (76 ∷ [], call.List, ([], refl, refl));
+  here = first_here line none;
+}
 
--- a line whose first byte is the letter of no call
-pub breaks_first :
-    (line rest : List ℕ) (byte : ℕ)
-    → line ≡ byte ∷ rest → ((c : LineCall) → letter c ≡ byte → ⊥) → (column : ℕ) → column ≡ 1 → Breaks line column
-breaks_first line rest byte joined none column first =
-    let none_here : (more : List ℕ) (c : LineCall) → Spells (byte ∷ more) c → ⊥ = λ more c spells.
-    let same = spells.1 in none c (cc (same)) in
-    subst (λ k. Breaks line k) (sym first) (subst (λ k. Breaks k 1) (sym joined) (record {
-      none = none_here rest;
-      from_one = omega arith;
-      within = omega arith;
-      before = continues_empty;
-      here = λ inside more. none_here more.0 more.1 more.2;
-    }))
-
-pub breaks_empty : (line : List ℕ) → line ≡ [] → (column : ℕ) → column ≡ 1 → Breaks line column
-breaks_empty line empty column first =
-    subst (λ k. Breaks line k) (sym first) (subst (λ k. Breaks k 1) (sym empty) (record {
-      none = λ c spells.
-          let same = spells.1 in
-          let never : ◌≡◌ {A = ℕ} 0 1 = cc (same) in
-          omega arith;
-      from_one = omega arith;
-      within = omega arith;
-      before = continues_empty;
-      here = λ inside more. absurd (omega arith);
-    }))
+letter_no_digit : (c : LineCall) → Digit (letter c) → ⊥
+letter_no_digit (call.Request origin destination slot) digit = omega arith
+letter_no_digit (call.Confirm number) digit = omega arith
+letter_no_digit (call.Withdraw number) digit = omega arith
+letter_no_digit (call.Arrive number) digit = omega arith
+letter_no_digit call.List digit = omega arith
 
 pub no_letter :
     (byte : ℕ)
@@ -203,21 +156,6 @@ no_letter byte not_r not_c not_w not_a not_l (call.Confirm number) same = not_c 
 no_letter byte not_r not_c not_w not_a not_l (call.Withdraw number) same = not_w (sym same)
 no_letter byte not_r not_c not_w not_a not_l (call.Arrive number) same = not_a (sym same)
 no_letter byte not_r not_c not_w not_a not_l call.List same = not_l (sym same)
-
-breaks_run :
-    (digits rest : List ℕ)
-    → AllByRecursion Digit digits → 0 < length digits → (column : ℕ) → column ≡ 1 → Breaks (digits ++ rest) column
-breaks_run [] rest all some column first = absurd (omega arith)
-breaks_run (d ∷ ds) rest all some column first =
-    let digit = all.0 in
-    breaks_first (d ∷ (ds ++ rest)) (ds ++ rest) d refl
-    (no_letter d (λ is. omega arith) (λ is. omega arith) (λ is. omega arith) (λ is. omega arith) (λ is. omega arith))
-    column first
-
--- a line that begins with a digit
-pub breaks_digits : (line digits : List ℕ) → Run line digits → (column : ℕ) → column ≡ 1 → Breaks line column
-breaks_digits line digits run column first =
-    subst (λ l. Breaks l column) (sym run.joined) (breaks_run digits run.rest run.all run.some column first)
 
 continues_shorter : (bytes : List ℕ) (n : ℕ) → Continues bytes → Continues (take n bytes)
 continues_shorter bytes n more =
@@ -316,36 +254,62 @@ answers line r parses = record {
   enough = λ other same. deciding_bytes line other r same parses;
 }
 
-behind_letter :
-    (line rest after : List ℕ) (byte l : ℕ)
-    → line ≡ byte ∷ rest → byte ≡ l → after ≡ drop 1 line → line ≡ l ∷ after
-behind_letter line rest after byte l joined same left =
-    let tail : after ≡ rest = left ∙ ap (drop 1) joined in
-    joined ∙ (λ j. same j ∷ sym tail j)
-
--- the rest behind the letter decides the answer: its numbers, or where it breaks the form
-pub answers_call :
-    (c : LineCall) (line rest : List ℕ) (byte : ℕ) (after : Rest)
-    → line ≡ byte ∷ rest
-    → byte ≡ letter c
-    → after.bytes.now ≡ drop 1 line
-    → Spaced (numbers c) after.bytes.now
-    → Answers deciding line (Ok c)
-answers_call c line rest byte after joined same left spaced =
-    let whole = behind_letter line rest after.bytes.now byte (letter c) joined same left in
-    answers line (Ok c) (after.bytes.now, whole, spaced)
-
-pub answers_column :
-    (l count : ℕ) (line rest : List ℕ) (byte : ℕ) (after : Rest) (column : ℕ)
-    → Counts l count
-    → line ≡ byte ∷ rest
-    → byte ≡ l
-    → after.bytes.now ≡ drop 1 line
-    → after.column ≡ 2
-    → StopsAt count after.bytes.now after.column column
+-- the first word of a line is no letter
+pub answers_no_letter :
+    (line : List ℕ) (word : Word) {column : ℕ}
+    → Begins line 1 word → column ≡ column_of word → ((b k : ℕ) → word ≡ Letter b k → ⊥)
     → Answers deciding line (Err column)
-answers_column l count line rest byte after column of joined same left second stops =
-    let whole = behind_letter line rest after.bytes.now byte l joined same left in
-    answers line (Err column)
-    (breaks_behind_letter l count line after.bytes.now column of whole
-    (subst (λ start. StopsAt count after.bytes.now start column) second stops))
+answers_no_letter line word begins at other =
+    let first = at ∙ word_at line 1 word begins in
+    answers line (Err _) (subst (Breaks line) (sym first)
+    (breaks_first line (λ rest c is.
+    let found = letter_first line 1 word (letter c) rest begins is (letter_no_digit c) in
+    other (letter c) found.0 found.1)))
+
+-- a line that begins with a letter, and the rest behind that
+module _ (line : List ℕ) {byte column : ℕ} (begins : Begins line 1 (Letter byte column)) where
+  -- it is the letter of no call
+  pub answers_other : ((c : LineCall) → letter c ≡ byte → ⊥) → Answers deciding line (Err column)
+  answers_other none =
+      let joined = begins.2.1 in
+      answers line (Err column) (subst (Breaks line) (sym begins.0) (breaks_first line (λ rest c is. none c (cc))))
+
+  module _ (after : Rest) (left : after.bytes.now ≡ drop 1 line) (c : LineCall) (same : byte ≡ letter c) where
+    behind_letter : line ≡ letter c ∷ after.bytes.now
+    behind_letter =
+        let tail : after.bytes.now ≡ begins.2.0 = left ∙ ap (drop 1) begins.2.1 in
+        begins.2.1 ∙ (λ j. same j ∷ sym tail j)
+
+    -- the rest has its numbers
+    answers_call : Spaced (numbers c) after.bytes.now → Answers deciding line (Ok c)
+    answers_call spaced = answers line (Ok c) (after.bytes.now, behind_letter, spaced)
+
+    -- the rest breaks the form
+    answers_column :
+        {at : ℕ}
+        → after.column ≡ 2
+        → StopsAt (length (numbers c)) after.bytes.now after.column at
+        → Answers deciding line (Err at)
+    answers_column {at} second stops =
+        answers line (Err at)
+        (subst (λ l. Breaks l at) (sym behind_letter)
+        (breaks_letter c after.bytes.now at
+        (subst (λ start. StopsAt (length (numbers c)) after.bytes.now start at) second stops)))
+
+  -- what the rest tells, made into a call
+  pub answers_made :
+      {X : Type 0} {Made : X → LineCall → Type 0} (after : Rest) (c : LineCall) (made : X → LineCall)
+      (told : Result X ℕ) (answer : Result LineCall ℕ)
+      → after.bytes.now ≡ drop 1 line
+      → after.column ≡ 2
+      → byte ≡ letter c
+      → ((x : X) → letter (made x) ≡ letter c)
+      → Reads (length (numbers c)) (λ x. numbers (made x)) after.bytes.now after.column told
+      → MatchResult told (λ x. IsOkAnd answer (Made x)) (λ e. answer ≡ Err e)
+      → ((x : X) (d : LineCall) → Made x d → d ≡ made x)
+      → Answers deciding line answer
+  answers_made after c made (Ok x) (Ok d) left second same letters spaced is makes =
+      rw (makes x d is) (answers_call after left (made x) (same ∙ sym (letters x)) spaced)
+  answers_made after c made (Ok x) (Err at) left second same letters spaced is makes = absurd is
+  answers_made after c made (Err at) answer left second same letters stops is makes =
+      rw is (answers_column after left c same second stops)

@@ -1,71 +1,97 @@
 -- What the first word of a rest says about the numbers that are to come.
-use Rattle.std.proofs.Common.{◌≡◌, ℕ, suc, ◌+◌, ◌<◌, ◌≤◌, List, [], ◌∷◌, ◌++◌, length, drop, sym, refl, ap, ◌∙◌, subst, arith}
+use Rattle.std.proofs.Common.{◌≡◌, ℕ, suc, ◌+◌, ◌<◌, ◌≤◌, List, [], ◌∷◌, ◌++◌, length, drop, Err, Result, sym, refl, ap, ◌∙◌, subst, arith}
 use Rattle.std.specs.List.{AllByRecursion}
+use Rattle.std.specs.Result.{IsErrAnd}
+use Rattle.std.proofs.lemmas.Result.{err_from_is_err_and}
 use Rattle.std.proofs.lemmas.List.{drop_at, length-append}
 use Rattle.call_lines.specs.Grammar.{Digit, Number, Spaced, space}
 use Rattle.call_lines.specs.Stops.{Passes, SpacedRest, Stops, StopsAt, Taken}
-use Rattle.call_lines.specs.Words.{NoDigit, Run}
+use Rattle.call_lines.specs.Words.{Begins, NoDigit, Run, column_of}
 use Rattle.call_lines.specs.declared.words.Rest.{Rest}
+use Rattle.call_lines.specs.declared.words.Word.{Word}
+use Rattle.call_lines.specs.declared.words.Word.TheVariants.{Letter, Digits, End}
 use Rattle.call_lines.proofs.Stopping.{
   stops_behind,
   stops_in_digits,
   stops_past_numbers,
-  stops_when_empty,
   stops_without_digit,
   stops_without_space,
 }
-
--- something stands where the line is to end
-pub past_end : (bytes : List ℕ) (start column : ℕ) → column ≡ start → 0 < length bytes → StopsAt 0 bytes start column
-past_end [] start column here some = absurd (omega arith)
-past_end (b ∷ bs) start column here some = (0, omega arith, stops_past_numbers b bs)
 
 pub run_fits : {bytes digits : List ℕ} → Run bytes digits → length digits ≤ length bytes
 run_fits {bytes} {digits} run =
     omega (arith, ap length run.joined, length-append digits run.rest)
 
--- a byte, a digit or the end stands where a space is to stand
-pub no_space :
-    (bytes rest : List ℕ) (byte start column : ℕ)
-    → bytes ≡ byte ∷ rest → (byte ≡ space → ⊥) → column ≡ start
-    → (more : ℕ) → StopsAt (suc more) bytes start column
-no_space bytes rest byte start column joined other here more =
-    (0, omega arith, subst (λ l. Stops (suc more) l 0) (sym joined) (stops_without_space more byte rest other))
+run_first :
+    (digits bytes rest : List ℕ)
+    → AllByRecursion Digit digits → 0 < length digits → bytes ≡ digits ++ rest
+    → (byte : ℕ) × (others : List ℕ) × Digit byte × (bytes ≡ byte ∷ others)
+run_first [] bytes rest all some joined = absurd (omega arith)
+run_first (d ∷ ds) bytes rest all some joined = (d, ds ++ rest, all.0, joined)
 
-no_space_run :
-    (digits rest : List ℕ) (start column : ℕ)
-    → AllByRecursion Digit digits → 0 < length digits → column ≡ start
-    → (more : ℕ) → StopsAt (suc more) (digits ++ rest) start column
-no_space_run [] rest start column all some here more = absurd (omega arith)
-no_space_run (d ∷ ds) rest start column all some here more =
-    let digit = all.0 in
-    (0, omega arith, stops_without_space more d (ds ++ rest) (λ same. omega arith))
+module _ (bytes : List ℕ) (start : ℕ) where
+  -- a byte that is no digit is the first word
+  pub letter_first :
+      (word : Word) (byte : ℕ) (rest : List ℕ)
+      → Begins bytes start word → bytes ≡ byte ∷ rest → (Digit byte → ⊥) → (column : ℕ) × (word ≡ Letter byte column)
+  letter_first (Letter other column) byte rest begins is none =
+      let same : bytes ≡ other ∷ begins.2.0 = begins.2.1 in (column, ap (λ k. Letter k column) (cc))
+  letter_first (Digits digits column) byte rest begins is none =
+      let run = begins.1 in
+      let first = run_first digits.now bytes run.rest run.all run.some run.joined in
+      let same : first.0 ≡ byte = cc first.3 in
+      absurd (none (rw same at first.2))
+  letter_first (End column) byte rest begins is none = let empty = begins.1 in cc
 
-pub no_space_digits :
-    (bytes digits : List ℕ) (start column : ℕ)
-    → Run bytes digits → column ≡ start → (more : ℕ) → StopsAt (suc more) bytes start column
-no_space_digits bytes digits start column run here more =
-    subst (λ l. StopsAt (suc more) l start column) (sym run.joined)
-    (no_space_run digits run.rest start column run.all run.some here more)
+  pub word_at : (word : Word) → Begins bytes start word → column_of word ≡ start
+  word_at (Letter byte column) begins = begins.0
+  word_at (Digits digits column) begins = begins.0
+  word_at (End column) begins = begins.0
 
-pub no_space_end :
-    (bytes : List ℕ) (start column : ℕ)
-    → bytes ≡ [] → column ≡ start → (more : ℕ) → StopsAt (suc more) bytes start column
-no_space_end bytes start column empty here more =
-    (0, omega arith, subst (λ l. Stops (suc more) l 0) (sym empty) (stops_when_empty more))
+  some_bytes : (word : Word) → Begins bytes start word → ((k : ℕ) → word ≡ End k → ⊥) → 0 < length bytes
+  some_bytes (Letter byte column) begins other = omega (arith, ap length begins.2.1)
+  some_bytes (Digits digits column) begins other = omega (arith, begins.1.some, run_fits begins.1)
+  some_bytes (End column) begins other = absurd (other column refl)
+
+  no_digit_first :
+      (word : Word) → Begins bytes start word → ((d : _) (k : ℕ) → word ≡ Digits d k → ⊥) → NoDigit bytes
+  no_digit_first (Letter byte column) begins other = subst NoDigit (sym begins.2.1) begins.1
+  no_digit_first (Digits digits column) begins other = absurd (other digits column refl)
+  no_digit_first (End column) begins other = subst NoDigit (sym begins.1) tt
+
+  -- the first word is not the end
+  pub past_end :
+      (word : Word) {column : ℕ}
+      → Begins bytes start word → column ≡ column_of word → ((k : ℕ) → word ≡ End k → ⊥)
+      → StopsAt 0 bytes start column
+  past_end word begins at other =
+      (0, omega (arith, at ∙ word_at word begins), stops_past_numbers bytes (some_bytes word begins other))
+
+  -- the first word is no space
+  pub no_space :
+      (word : Word) {column : ℕ}
+      → Begins bytes start word → column ≡ column_of word → ((k : ℕ) → word ≡ Letter space k → ⊥)
+      → (more : ℕ) → StopsAt (suc more) bytes start column
+  no_space word begins at other more = (
+    0,
+    omega (arith, at ∙ word_at word begins),
+    stops_without_space more bytes (λ rest is.
+        let letter = letter_first word space rest begins is (λ digit. omega arith) in other letter.0 letter.1),
+  )
 
 module _ (bytes : List ℕ) (start : ℕ) (after : Rest) (spaced : SpacedRest bytes start after) where
   -- no digit behind the space
   pub no_digit :
-      (column : ℕ)
-      → NoDigit after.bytes.now → column ≡ after.column
+      (word : Word) {column : ℕ}
+      → Begins after.bytes.now after.column word → column ≡ column_of word
+      → ((d : _) (k : ℕ) → word ≡ Digits d k → ⊥)
       → (more : ℕ) → StopsAt (suc more) bytes start column
-  no_digit column none here more =
-      let at = spaced.column in (
-        1,
-        omega arith,
-        subst (λ l. Stops (suc more) l 1) (sym spaced.joined) (stops_without_digit more after.bytes.now none),
-      )
+  no_digit word begins at other more = (
+    1,
+    omega (arith, spaced.column, at ∙ word_at _ _ word begins),
+    subst (λ l. Stops (suc more) l 1) (sym spaced.joined)
+        (stops_without_digit more after.bytes.now (no_digit_first _ _ word begins other)),
+  )
 
   -- a digit behind the space passes a limit
   pub too_large :
@@ -126,3 +152,7 @@ pub spaced_behind :
     → Taken bytes start n after → (ns : List ℕ) → Spaced ns after.bytes.now → Spaced (n ∷ ns) bytes
 spaced_behind bytes start n after taken ns spaced =
     (taken.word, after.bytes.now, taken.number, spaced, taken.joined)
+
+-- what a `?` hands on is the column that it was told
+pub handed : {T : Type 0} (P : Result T ℕ → Type 0) {e : ℕ} (r : Result T ℕ) → IsErrAnd r (λ y. y ≡ e) → P (Err e) → P r
+handed P r is known = let error = err_from_is_err_and r is in rw (error.1, error.2) known

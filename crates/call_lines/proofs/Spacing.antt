@@ -6,16 +6,9 @@ use Rattle.call_lines.specs.Stops.{GoesOn}
 use Rattle.call_lines.specs.Words.{NoDigit}
 use Rattle.call_lines.proofs.Digits.{run_unique}
 
-no_digit_at : (bytes others : List ℕ) → bytes ≡ others → NoDigit others → NoDigit bytes
-no_digit_at bytes others same end = rw same end
-
-pub space_no_digit : (bytes : List ℕ) → NoDigit (space ∷ bytes)
-space_no_digit bytes = λ digit. omega arith
-
 pub spaced_no_digit : (ns bytes : List ℕ) → Spaced ns bytes → NoDigit bytes
-spaced_no_digit [] bytes empty = no_digit_at bytes [] empty tt
-spaced_no_digit (n ∷ ns) bytes spaced =
-    no_digit_at bytes (space ∷ (spaced.0 ++ spaced.1)) spaced.4 (space_no_digit (spaced.0 ++ spaced.1))
+spaced_no_digit [] bytes empty = rw empty tt
+spaced_no_digit (n ∷ ns) bytes spaced = rw spaced.4 (λ digit. omega arith)
 
 -- a number behind a space, of bytes that begin with such: it is this number, and so is what is left
 pub next_unique :
@@ -29,13 +22,9 @@ next_unique w r v s n ns m number_w end number_v spaced same =
 pub spaced_unique : (ns ms bytes : List ℕ) → Spaced ns bytes → Spaced ms bytes → ns ≡ ms
 spaced_unique [] [] bytes one other = refl
 spaced_unique [] (m ∷ ms) bytes one other =
-    let differ : [] ≡ space ∷ (other.0 ++ other.1) = sym one ∙ other.4 in
-    let never : ◌≡◌ {A = ℕ} 0 1 = cc in
-    absurd (omega arith)
+    let differ : [] ≡ space ∷ (other.0 ++ other.1) = sym one ∙ other.4 in cc
 spaced_unique (n ∷ ns) [] bytes one other =
-    let differ : [] ≡ space ∷ (one.0 ++ one.1) = sym other ∙ one.4 in
-    let never : ◌≡◌ {A = ℕ} 0 1 = cc in
-    absurd (omega arith)
+    let differ : [] ≡ space ∷ (one.0 ++ one.1) = sym other ∙ one.4 in cc
 spaced_unique (n ∷ ns) (m ∷ ms) bytes one other =
     let parts =
     next_unique one.0 one.1 other.0 other.1 m ms n one.2

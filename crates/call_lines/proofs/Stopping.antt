@@ -1,11 +1,12 @@
 -- Where spaced numbers break the form.
 use Rattle.std.proofs.Common.{◌≡◌, ℕ, suc, ◌+◌, ◌<◌, List, [], ◌∷◌, ◌++◌, length, take, drop, sym, refl, ap, ◌∙◌, subst, zero-add, arith}
 use Rattle.std.specs.List.{AllByRecursion}
+use Rattle.std.proofs.ByRecursion.{All-take}
 use Rattle.std.proofs.lemmas.List.{append_assoc, append-nil, length-append, length-take-le, take_all, take-append-drop, take-append-le}
 use Rattle.call_lines.specs.Grammar.{Digit, Number, Spaced, read_on, space}
 use Rattle.call_lines.specs.Stops.{GoesOn, Passes, Stops}
 use Rattle.call_lines.specs.Words.{NoDigit}
-use Rattle.call_lines.proofs.Digits.{digits_take, read_on_append, read_on_ge, run_begins}
+use Rattle.call_lines.proofs.Digits.{read_on_append, read_on_ge, run_begins}
 use Rattle.call_lines.proofs.Spacing.{
   first_number,
   goes_on_number,
@@ -51,31 +52,27 @@ stops_at_end count bytes place end before none = record {
 }
 
 no_spaced_zero : (ns : List ℕ) (byte : ℕ) (bytes : List ℕ) → length ns ≡ 0 → Spaced ns (byte ∷ bytes) → ⊥
-no_spaced_zero [] byte bytes long spaced = let never : ◌≡◌ {A = ℕ} 0 1 = cc in omega arith
+no_spaced_zero [] byte bytes long spaced = cc
 no_spaced_zero (n ∷ ns) byte bytes long spaced = omega arith
 
 -- a byte behind the last number
-pub stops_past_numbers : (byte : ℕ) (bytes : List ℕ) → Stops 0 (byte ∷ bytes) 0
-stops_past_numbers byte bytes =
-    stops_here 0 (byte ∷ bytes) 0 (omega arith) (some_spaced 0)
-    (λ more. no_spaced_zero more.1 byte more.0 more.2 more.3)
+pub stops_past_numbers : (bytes : List ℕ) → 0 < length bytes → Stops 0 bytes 0
+stops_past_numbers [] some = absurd (omega arith)
+stops_past_numbers (b ∷ bs) some =
+    stops_here 0 (b ∷ bs) 0 (omega arith) (some_spaced 0) (λ more. no_spaced_zero more.1 b more.0 more.2 more.3)
 
 -- no space
 pub stops_without_space :
-    (count byte : ℕ) (bytes : List ℕ) → (byte ≡ space → ⊥) → Stops (suc count) (byte ∷ bytes) 0
-stops_without_space count byte bytes other =
-    stops_here (suc count) (byte ∷ bytes) 0 (omega arith) (some_spaced (suc count))
-    (λ more.
-    let first = first_number count more.1 (byte ∷ more.0) more.2 more.3 in
-    other (cc first.joined))
-
-pub stops_when_empty : (count : ℕ) → Stops (suc count) [] 0
-stops_when_empty count =
+    (count : ℕ) (bytes : List ℕ) → ((rest : List ℕ) → bytes ≡ space ∷ rest → ⊥) → Stops (suc count) bytes 0
+stops_without_space count [] other =
     stops_at_end (suc count) [] 0 refl (some_spaced (suc count))
-    (λ ns long spaced.
-    let first = first_number count ns [] long spaced in
-    let never : ◌≡◌ {A = ℕ} 0 1 = cc first.joined in
-    omega arith)
+    (λ ns long spaced. other _ (first_number count ns [] long spaced).joined)
+stops_without_space count (b ∷ bs) other =
+    stops_here (suc count) (b ∷ bs) 0 (omega arith) (some_spaced (suc count))
+    (λ more.
+    let first = first_number count more.1 (b ∷ more.0) more.2 more.3 in
+    let same : b ≡ space = cc first.joined in
+    other bs (ap (λ k. k ∷ bs) same))
 
 number_begins : (word rest : List ℕ) (n : ℕ) → Number word n → NoDigit (word ++ rest) → ⊥
 number_begins [] rest n number end = omega (arith, number.some)
@@ -126,7 +123,7 @@ stops_in_digits count digits rest place all passes =
     let first = first_number count more.1 (space ∷ (word ++ more.0)) more.2 spaced in
     let same : word ++ more.0 ≡ first.word ++ first.rest = cc first.joined in
     let longer =
-    run_begins word more.0 first.word first.rest (digits_take (suc place) digits all)
+    run_begins word more.0 first.word first.rest (All-take Digit (suc place) digits all)
     (spaced_no_digit first.ns first.rest first.spaced) same in
     let number = first.number in
     let value : read_on 0 first.word ≡ read_on (read_on 0 word) longer.0 =

@@ -1,5 +1,5 @@
 -- The part of a line behind its letter, which is to hold so many numbers, and where it breaks the form.
-use Rattle.std.specs.Prelude.{◌≡◌, ℕ, suc, ◌+◌, ◌<◌, ◌≤◌, List, [], ◌∷◌, ◌++◌, length, take, Ok, Err, Result}
+use Rattle.std.specs.Prelude.{◌≡◌, ℕ, suc, ◌+◌, ◌<◌, ◌≤◌, List, [], ◌∷◌, ◌++◌, length, take, Ok, Err, MatchResult, Result}
 use Rattle.call_lines.specs.Grammar.{Number, Spaced, most_digits, most_number, read_on, space}
 use Rattle.call_lines.specs.Words.{NoDigit}
 use Rattle.call_lines.specs.declared.words.Rest.{Rest}
@@ -52,15 +52,16 @@ abbrev pub Takes : List ℕ → ℕ → Result (ℕ × Rest) ℕ → Type 0
 Takes bytes start (Ok taken) = Taken bytes start taken.0 taken.1
 Takes bytes start (Err column) = (more : ℕ) → StopsAt (suc more) bytes start column
 
--- so many numbers and nothing behind them
+-- the numbers in what is told, and nothing behind them; or where bytes that are to have so many break the form
+abbrev pub Reads : {X : Type 0} → ℕ → (X → List ℕ) → List ℕ → ℕ → Result X ℕ → Type 0
+Reads count numbers bytes start told =
+    MatchResult told (λ x. Spaced (numbers x) bytes) (λ column. StopsAt count bytes start column)
+
 abbrev pub Ends : List ℕ → ℕ → Result (Unit {0}) ℕ → Type 0
-Ends bytes start (Ok _) = bytes ≡ []
-Ends bytes start (Err column) = StopsAt 0 bytes start column
+Ends = Reads 0 (λ _. [])
 
 abbrev pub One : List ℕ → ℕ → Result ℕ ℕ → Type 0
-One bytes start (Ok n) = Spaced (n ∷ []) bytes
-One bytes start (Err column) = StopsAt 1 bytes start column
+One = Reads 1 (λ n. n ∷ [])
 
 abbrev pub Three : List ℕ → ℕ → Result (ℕ × ℕ × ℕ) ℕ → Type 0
-Three bytes start (Ok ns) = Spaced (ns.0 ∷ ns.1 ∷ ns.2 ∷ []) bytes
-Three bytes start (Err column) = StopsAt 3 bytes start column
+Three = Reads 3 (λ ns. ns.0 ∷ ns.1 ∷ ns.2 ∷ [])

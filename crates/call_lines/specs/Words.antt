@@ -1,14 +1,15 @@
 -- The word that the rest of a line begins with.
-use Rattle.std.specs.Prelude.{◌≡◌, ℕ, ◌+◌, ◌^◌, ◌<◌, ◌≤◌, List, [], ◌∷◌, ◌++◌, length, take, drop}
+use Rattle.std.specs.Prelude.{◌≡◌, ℕ, ◌<◌, ◌≤◌, List, [], ◌∷◌, ◌++◌, length, take, drop}
 use Rattle.std.specs.List.{AllByRecursion}
 use Rattle.call_lines.specs.Grammar.{Digit}
-use Rattle.call_lines.specs.declared.words.Rest.{Rest}
 use Rattle.call_lines.specs.declared.words.Word.{Word}
 use Rattle.call_lines.specs.declared.words.Word.TheVariants.{Letter, Digits, End}
 
--- the column behind the end, too, fits 64 bits
-abbrev pub Fits : Rest → Type 0
-Fits rest = rest.column + length rest.bytes.now ≤ 2 ^ 63
+-- the column of a word
+abbrev pub column_of : Word → ℕ
+column_of (Letter byte column) = column
+column_of (Digits digits column) = column
+column_of (End column) = column
 
 -- no digit comes first
 abbrev pub NoDigit : List ℕ → Type 0

@@ -4,7 +4,7 @@ ghost use Rattle.std.specs.List.{AllByRecursion};
 ghost use Rattle.call_lines.specs.Grammar.{Digit};
 ghost use Rattle.call_lines.specs.Parsing.{Answers};
 ghost use Rattle.call_lines.specs.Stops.{Ends, One, Spaces, Takes, Three, Valued};
-ghost use Rattle.call_lines.specs.Words.{Begins, Fits, Front};
+ghost use Rattle.call_lines.specs.Words.{Begins, Front, column_of};
 
 use crate::calls::LineCall;
 use crate::words::{Rest, Word};
@@ -18,38 +18,10 @@ const MOST_DIGITS: usize = 5;
 fn digit_count(bytes: &[u8]) -> usize
     ensures { Front bytes.now result }
 {
-    for (place, byte) in bytes.iter().enumerate() {
-        if !byte.is_ascii_digit() {
-            return place;
-        }
-    }
-    bytes.len()
-}
-
-fn first_word<'l>(rest: Rest<'l>) -> Word<'l>
-    ensures { Begins rest.entry.bytes.now rest.entry.column result }
-{
-    let Some(first) = rest.bytes.first() else {
-        return Word::End(rest.column);
-    };
-    if first.is_ascii_digit() {
-        Word::Digits(&rest.bytes[..digit_count(rest.bytes)], rest.column)
-    } else {
-        Word::Letter(*first, rest.column)
-    }
-}
-
-// What is left behind some bytes of the rest.
-fn behind<'l>(rest: Rest<'l>, count: usize) -> Rest<'l>
-    requires within { count ≤ length rest.bytes.now }
-    requires fits { Fits rest }
-    ensures bytes { result.bytes.now ≡ drop count rest.entry.bytes.now }
-    ensures column { result.column ≡ rest.entry.column + count }
-{
-    Rest {
-        bytes: &rest.bytes[count..],
-        column: rest.column + count,
-    }
+    bytes
+        .iter()
+        .position(|byte| !byte.is_ascii_digit())
+        .unwrap_or(bytes.len())
 }
 
 // The number that digits write; or the column of the digit that is one too many or makes the number too large.
@@ -59,6 +31,7 @@ fn value_of(digits: &[u8], column: usize) -> Result<u16, usize>
     requires fits { column + length digits.now ≤ 2 ^ 63 }
     ensures { Valued digits.now column result }
 {
+    // The place of a digit is part of the answer, so the loop has it beside the digit.
     let mut value = 0;
     for (place, digit) in digits.iter().enumerate() {
         value = value * 10 + (*digit - b'0') as u32;
@@ -69,67 +42,92 @@ fn value_of(digits: &[u8], column: usize) -> Result<u16, usize>
     Ok(value as u16)
 }
 
-// What is left behind a space; or the column where no space is.
-fn take_space<'l>(rest: Rest<'l>) -> Result<Rest<'l>, usize>
-    requires { Fits rest }
-    ensures { Spaces rest.entry.bytes.now rest.entry.column result }
-{
-    match first_word(rest) {
-        Word::Letter(byte, column) => {
-            if byte == b' ' {
-                Ok(behind(rest, 1))
-            } else {
-                Err(column)
+impl<'l> Word<'l> {
+    fn column(self) -> usize
+        ensures { result ≡ column_of self.entry }
+    {
+        match self {
+            Word::Letter(_, column) | Word::Digits(_, column) | Word::End(column) => column,
+        }
+    }
+}
+
+// A column in an `Err` is the one at which the line breaks the form. `parse` answers it, so it has no type of its own.
+impl<'l> Rest<'l> {
+    fn first_word(self) -> Word<'l>
+        ensures { Begins self.entry.bytes.now self.entry.column result }
+    {
+        match self.bytes.first() {
+            Some(first) if first.is_ascii_digit() => {
+                Word::Digits(&self.bytes[..digit_count(self.bytes)], self.column)
             }
+            Some(first) => Word::Letter(*first, self.column),
+            None => Word::End(self.column),
         }
-        Word::Digits(_, column) => Err(column),
-        Word::End(column) => Err(column),
     }
-}
 
-// A space and a number behind it, and what is left behind that.
-fn take_number<'l>(rest: Rest<'l>) -> Result<(u16, Rest<'l>), usize>
-    requires { Fits rest }
-    ensures { Takes rest.entry.bytes.now rest.entry.column result }
-{
-    let rest = take_space(rest)?;
-    match first_word(rest) {
-        Word::Digits(digits, column) => {
-            let number = value_of(digits, column)?;
-            Ok((number, behind(rest, digits.len())))
+    // What is left behind some of the bytes.
+    fn behind(self, count: usize) -> Rest<'l>
+        requires { count ≤ length self.bytes.now }
+        ensures bytes { result.bytes.now ≡ drop count self.entry.bytes.now }
+        ensures column { result.column ≡ self.entry.column + count }
+    {
+        Rest {
+            bytes: &self.bytes[count..],
+            column: self.column + count,
         }
-        Word::Letter(_, column) => Err(column),
-        Word::End(column) => Err(column),
     }
-}
 
-fn at_end(rest: Rest<'_>) -> Result<(), usize>
-    ensures { Ends rest.entry.bytes.now rest.entry.column result }
-{
-    match first_word(rest) {
-        Word::End(_) => Ok(()),
-        Word::Letter(_, column) => Err(column),
-        Word::Digits(_, column) => Err(column),
+    // What is left behind a space.
+    fn space(self) -> Result<Rest<'l>, usize>
+        ensures { Spaces self.entry.bytes.now self.entry.column result }
+    {
+        let word = self.first_word();
+        let Word::Letter(b' ', _) = word else {
+            return Err(word.column());
+        };
+        Ok(self.behind(1))
     }
-}
 
-fn one_number(rest: Rest<'_>) -> Result<u16, usize>
-    requires { Fits rest }
-    ensures { One rest.entry.bytes.now rest.entry.column result }
-{
-    let (number, rest) = take_number(rest)?;
-    at_end(rest)?;
-    Ok(number)
-}
+    // A space and a number behind it, and what is left behind that.
+    fn number(self) -> Result<(u16, Rest<'l>), usize>
+        ensures { Takes self.entry.bytes.now self.entry.column result }
+    {
+        let rest = self.space()?;
+        let word = rest.first_word();
+        let Word::Digits(digits, column) = word else {
+            return Err(word.column());
+        };
+        let number = value_of(digits, column)?;
+        Ok((number, rest.behind(digits.len())))
+    }
 
-fn three_numbers(rest: Rest<'_>) -> Result<(u16, u16, u16), usize>
-    requires { Fits rest }
-    ensures { Three rest.entry.bytes.now rest.entry.column result }
-{
-    let (first, rest) = take_number(rest)?;
-    let (second, rest) = take_number(rest)?;
-    let third = one_number(rest)?;
-    Ok((first, second, third))
+    fn end(self) -> Result<(), usize>
+        ensures { Ends self.entry.bytes.now self.entry.column result }
+    {
+        let word = self.first_word();
+        let Word::End(_) = word else {
+            return Err(word.column());
+        };
+        Ok(())
+    }
+
+    fn one_number(self) -> Result<u16, usize>
+        ensures { One self.entry.bytes.now self.entry.column result }
+    {
+        let (number, rest) = self.number()?;
+        rest.end()?;
+        Ok(number)
+    }
+
+    fn three_numbers(self) -> Result<(u16, u16, u16), usize>
+        ensures { Three self.entry.bytes.now self.entry.column result }
+    {
+        let (first, rest) = self.number()?;
+        let (second, rest) = rest.number()?;
+        let third = rest.one_number()?;
+        Ok((first, second, third))
+    }
 }
 
 // The call that a line spells, or the column at which it breaks the form. The line comes without its line feed.
@@ -140,34 +138,20 @@ pub fn parse(line: &[u8]) -> Result<LineCall, usize>
         bytes: line,
         column: 1,
     };
-    match first_word(line) {
-        Word::Letter(letter, column) => {
-            let rest = behind(line, 1);
-            match letter as char {
-                'R' => {
-                    let (origin, destination, slot) = three_numbers(rest)?;
-                    Ok(LineCall::Request(origin, destination, slot))
-                }
-                'C' => {
-                    let number = one_number(rest)?;
-                    Ok(LineCall::Confirm(number))
-                }
-                'W' => {
-                    let number = one_number(rest)?;
-                    Ok(LineCall::Withdraw(number))
-                }
-                'A' => {
-                    let number = one_number(rest)?;
-                    Ok(LineCall::Arrive(number))
-                }
-                'L' => {
-                    at_end(rest)?;
-                    Ok(LineCall::List)
-                }
-                _ => Err(column),
-            }
+    let word = line.first_word();
+    let Word::Letter(letter, column) = word else {
+        return Err(word.column());
+    };
+    let rest = line.behind(1);
+    match letter as char {
+        'R' => {
+            let numbers = rest.three_numbers();
+            numbers.map(|(origin, destination, slot)| LineCall::Request(origin, destination, slot))
         }
-        Word::Digits(_, column) => Err(column),
-        Word::End(column) => Err(column),
+        'C' => rest.one_number().map(LineCall::Confirm),
+        'W' => rest.one_number().map(LineCall::Withdraw),
+        'A' => rest.one_number().map(LineCall::Arrive),
+        'L' => rest.end().map(|()| LineCall::List),
+        _ => Err(column),
     }
 }

@@ -6,6 +6,7 @@ pub trait Ordered: Copy {
     // The first of two elements comes before the second.
     ghost before: { Self → Self → Bool };
 
+    // It has no body: `*self < *other` here would ask `PartialOrd` of every kind.
     fn is_before(&self, other: &Self) -> bool
         ensures { result ≡ before self.now other.now };
 

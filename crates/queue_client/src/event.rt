@@ -1,4 +1,4 @@
-// Shift events.
+// The events of a shift: departures and ends of bookings.
 ghost use Rattle.queue_client.specs.Kinds.{event_before};
 ghost use Rattle.queue.proofs.Orders.{numbers, pairs, by_key};
 ghost use Rattle.queue_client.specs.EventOrder.{key, event_from_key};
@@ -15,7 +15,7 @@ pub enum Change {
 // What happens at a slot to the booking with a number. The derived order goes by the fields, as they stand.
 #[derive(Clone, Copy, PartialEq, PartialOrd, Debug)]
 pub struct Event {
-    pub slot: u16,
+    pub slot: u32,
     pub change: Change,
     pub number: u16,
 }

@@ -1,4 +1,4 @@
-// Search labels.
+// The labels of a search.
 ghost use Rattle.queue_client.specs.Kinds.{label_before};
 ghost use Rattle.std.proofs.Common.{rules};
 

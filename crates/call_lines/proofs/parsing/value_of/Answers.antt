@@ -1,6 +1,8 @@
 use Rattle.std.proofs.Common.{◌≡◌, ◌≤◌, length, take, refl, arith}
+use Rattle.std.proofs.ByRecursion.{All-get_or}
 use Rattle.std.proofs.lemmas.List.{take_all}
-use Rattle.call_lines.proofs.Digits.{digits_at, passes_limit, read_on_more}
+use Rattle.call_lines.specs.Grammar.{Digit}
+use Rattle.call_lines.proofs.Digits.{passes_limit, read_on_more}
 use Rattle.call_lines.proofs.parsing.value_of.Goals as goal
 use Rattle.call_lines.proofs.parsing.value_of.Goals.{
   then-place-eq-MOST_DIGITS-via-then-place-eq-MOST_DIGITS,
@@ -11,7 +13,7 @@ pub overflow_sub-value : goal.overflow_sub-value
 overflow_sub-value c =
     omega (
       arith,
-      (digits_at c.args.digits.now c.loop-place.place c.requires.digits c.loop-place-test.true).0,
+      (All-get_or Digit c.args.digits.now c.loop-place.place 0 c.loop-place-test.true c.requires.digits).0,
     )
 
 pub returns-then-place-eq-MOST_DIGITS : goal.returns-then-place-eq-MOST_DIGITS
