@@ -18,25 +18,14 @@ use Rattle.book.proofs.Sums.{sum_same, sum_zero}
 pub shown_fits : (p : ShownPlan) → ShownFits (shown_of p)
 shown_fits p =
     let few = p.few_segments in
-    let sized = p.sized in
-    let long = roads_length p.segments p.numbers (omega (arith, few, sized)) in
+    let long = roads_length p.numbers.items in
     record {
       some_slot = p.some_slot;
       few_slots = p.few_slots;
       two_junctions = p.two_junctions;
       few_junctions = p.few_junctions;
       few_segments = omega (arith, few, long);
-      roads_fit = λ i within.
-          let join = p.joined i (omega (arith, long, within)) in
-          let measure = p.measured i (omega (arith, long, within)) in
-          record {
-            start_known = join.0;
-            end_known = join.1;
-            no_loop = join.2;
-            takes_a_slot = measure.0;
-            few_slots = measure.1;
-            small_count = measure.2;
-          };
+      roads_fit = λ i within. p.roads_fit i (omega (arith, long, within));
     }
 
 -- the book keeps legs, and the plan has the segment and the entry

@@ -1,6 +1,5 @@
 -- Whether a closure covers a slot that a leg holds, by the ends of both.
-use Rattle.std.proofs.Common.{◌≡◌, ℕ, zero, suc, ◌+◌, ◌<◌, ◌≤◌, min, max, true, false, ◌&&◌, ◌||◌, eqb, ltb, List, [], ◌∷◌, length, get_or, drop, sym, ◌∙◌, arith}
-use Rattle.std.proofs.lemmas.List.{at_drop_all, at_drop_more}
+use Rattle.std.proofs.Common.{◌≡◌, ℕ, zero, suc, ◌+◌, ◌<◌, ◌≤◌, min, max, true, ◌&&◌, eqb, ltb, List, [], ◌∷◌, length, get_or, sym, ◌∙◌, arith}
 use Rattle.std.proofs.lemmas.Bool.{lt-ltb, ltb-true, or_right}
 use Rattle.std.proofs.lemmas.Bool.Decides.{nat_tests}
 use Rattle.plan.specs.declared.parts.Closure.{Closure}
@@ -11,20 +10,10 @@ pub covers_some : (k : Closure) (e u : ℕ)
 covers_some k e zero = grind (arith, nat_tests)
 covers_some k e (suc u) = let before = covers_some k e u in grind (arith, nat_tests, before)
 
--- the next closure, and those behind it
-pub closed_next : (ks : List Closure) (n : ℕ) (d : Closure) (i u e : ℕ) → n < length ks
-    → closed_by (drop n ks) i u e
-    ≡ ((eqb (get_or ks n d).segment i && any_below u (λ j. covers (get_or ks n d) (e + j)))
-    || closed_by (drop (n + 1) ks) i u e)
-closed_next ks n d i u e within = at_drop_more (λ xs. closed_by xs i u e) ks n d within
-
-pub closed_none : (ks : List Closure) (n i u e : ℕ) → length ks ≤ n → closed_by (drop n ks) i u e ≡ false
-closed_none ks n i u e past = at_drop_all (λ xs. closed_by xs i u e) ks n past
-
 -- a closure that bars an entry bars the entries from there up to its end
-pub covers_through : (k : Closure) (e u x : ℕ) → 1 ≤ u → any_below u (λ j. covers k (e + j)) ≡ true → e ≤ x → x < k.end
+pub covers_through : (k : Closure) (e u x : ℕ) → any_below u (λ j. covers k (e + j)) ≡ true → e ≤ x → x < k.end
     → any_below u (λ j. covers k (x + j)) ≡ true
-covers_through k e u x some barred later before =
+covers_through k e u x barred later before =
     let overlap = ltb-true (max k.first e) (min (e + u) k.end) (sym (covers_some k e u) ∙ barred) in
     covers_some k x u ∙ lt-ltb (max k.first x) (min (x + u) k.end) (omega arith)
 

@@ -1,7 +1,8 @@
 -- A search for the next admissible entry, entry by entry.
-use Rattle.std.proofs.Common.{◌≡◌, ℕ, ◌+◌, ◌≤◌, true, false, sym, ◌∙◌, subst, inl, inr, ⊎_elim, arith}
+use Rattle.std.proofs.Common.{◌≡◌, ℕ, ◌+◌, ◌<◌, ◌≤◌, true, false, Some, None, Option, sym, ◌∙◌, subst, inl, inr, ⊎_elim, arith}
 use Rattle.std.proofs.lemmas.Bool.{cases_Bool, cases_eq, cases_lt, true≢false}
-use Rattle.book.specs.Entries.{IsNext, NoneBetween}
+use Rattle.std.specs.Option.{MatchOption}
+use Rattle.book.specs.Entries.{IsNext, NextEntry, NoneBetween}
 use Rattle.book.specs.Loads.{admissible}
 use Rattle.book.specs.Meaning.{Meaning, Sound, horizon}
 use Rattle.book.proofs.Loading.{admitted_known, admitted_within}
@@ -53,3 +54,13 @@ module _ (m : Meaning) (i from : ℕ) where
             none k later (omega arith)
         | inr not_admitted ↦ not_admitted
       ]
+
+  -- a search of the slots from `from` up to the horizon finds the next entry
+  pub next_found : (to : ℕ) (r : Option ℕ) → Sound m → horizon m ≤ to
+      → MatchOption r ((k : ℕ) → from ≤ k → k < to → admissible m (record { segment = i; entry = k }) ≡ false)
+      (λ e. (from ≤ e) × (e < to) × (admissible m (record { segment = i; entry = e }) ≡ true)
+      × ((k : ℕ) → from ≤ k → k < e → admissible m (record { segment = i; entry = k }) ≡ false))
+      → NextEntry m i from r
+  unfolding NoneBetween
+  next_found to None sound past none = none_after to sound none past
+  next_found to (Some e) sound past found = none_before e found.3 found.0 found.2

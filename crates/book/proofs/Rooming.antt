@@ -1,6 +1,9 @@
 -- Room in the slots of a leg, slot by slot, and under a hold-back.
-use Rattle.std.proofs.Common.{◌≡◌, ℕ, ◌+◌, ◌-◌, ◌<◌, ◌≤◌, Bool, true, false, not, ◌&&◌, ltb, leb, sym, refl, ap, ◌∙◌, ap₂, inl, inr, ⊎_elim, add-one, arith}
+use Rattle.std.proofs.Common.{◌≡◌, ℕ, zero, suc, ◌+◌, ◌-◌, ◌<◌, ◌≤◌, Bool, true, false, not, ◌&&◌, ltb, leb, length, sym, refl, ap, ◌∙◌, ap₂, subst, inl, inr, ⊎_elim, add-one, arith}
 use Rattle.std.proofs.lemmas.Bool.{and_from, and_left, cases_Bool, cases_lt, le-ltb, lt-ltb, ltb-true}
+use Rattle.std.proofs.lemmas.List.FromFn.{get_or-range_with_len, length-range_with_len}
+use Rattle.std.specs.Bool.{MatchBool}
+use Rattle.std.specs.List.{AllWithin, HoldsAt, range_with_len}
 use Rattle.book.specs.Below.{all_below}
 use Rattle.book.specs.Layered.{held_back}
 use Rattle.book.specs.Loads.{admissible, has_room, load, load_below}
@@ -31,6 +34,29 @@ module _ (m : Meaning) (l : Leg) (limit : ℕ) where
             absurd (omega (arith, ltb-true (load m l.segment (l.entry + k)) limit (all_at n test k all within)))
         | inr none ↦ none
       ]
+
+  rooms : (n : ℕ) → ((k : ℕ) → k < n → load m l.segment (l.entry + k) < limit) → room_below m l limit n ≡ true
+  unfolding room_below
+  rooms zero each = refl
+  rooms (suc n) each =
+      and_from (room_below m l limit n) _ (rooms n (λ k below. each k (omega arith)))
+      (lt-ltb (load m l.segment (l.entry + n)) limit (each n (omega arith)))
+
+  -- the answer of a pass over the n slots from the leg's entry on, which stops at the first that is full
+  pub room_passed : (n : ℕ) (r : Bool)
+      → MatchBool r
+      (AllWithin (λ t. load m l.segment t < limit) (range_with_len l.entry n) 0 (length (range_with_len l.entry n)))
+      ((k : ℕ) × (k < length (range_with_len l.entry n))
+      × HoldsAt (λ t. limit ≤ load m l.segment t) (range_with_len l.entry n) k)
+      → r ≡ room_below m l limit n
+  room_passed n true all =
+      sym (rooms n (λ k below.
+      subst (λ t. load m l.segment t < limit) (get_or-range_with_len l.entry n k 0 below)
+      (all k 0 (omega arith) (omega (arith, length-range_with_len l.entry n)))))
+  room_passed n false full =
+      let within : full.0 < n = omega (arith, length-range_with_len l.entry n, full.1) in
+      sym (room_fails n full.0 within
+      (subst (λ t. limit ≤ load m l.segment t) (get_or-range_with_len l.entry n full.0 0 within) (full.2 0)))
 
 -- the room of a leg under a hold-back is that of the book below with a lower limit
 pub room_held : (held : ℕ) (m : Meaning) (l : Leg) → l.segment < segments m

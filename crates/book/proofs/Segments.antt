@@ -1,6 +1,6 @@
 -- What the question for a segment tells.
 use Rattle.std.proofs.Common.{◌≡◌, ℕ, zero, suc, ◌-◌, ◌<◌, ◌≤◌, List, [], ◌∷◌, map, Some, None, Option, sym, refl, ap, ◌∙◌, ⊎_elim, arith}
-use Rattle.std.proofs.lemmas.Option.{slice_get-get_or, slice_get_past}
+use Rattle.std.proofs.lemmas.Option.{slice_get-get_or, slice_get-map, slice_get_past}
 use Rattle.std.proofs.lemmas.Bool.{cases_lt}
 use Rattle.std.specs.List.{slice_get}
 use Rattle.std.specs.Option.{option_map}
@@ -29,11 +29,6 @@ module _ (m : Meaning) (i : ℕ) where
       (λ past. let none = segment_unknown past in absurd (let z : ◌≡◌ {A = ℕ} 0 1 = cc in omega arith))
       (cases_lt i (segments m))
 
-nth_map : {A B : Type 0} (f : A → B) (xs : List A) (i : ℕ) → slice_get (map f xs) i ≡ option_map f (slice_get xs i)
-nth_map f [] i = refl
-nth_map f (x ∷ xs) zero = refl
-nth_map f (x ∷ xs) (suc i) = nth_map f xs i
-
 mapped_mapped : {A B C : Type 0} (f : A → B) (g : B → C) (o : Option A) → option_map g (option_map f o) ≡ option_map (λ x. g (f x)) o
 mapped_mapped f g None = refl
 mapped_mapped f g (Some x) = refl
@@ -45,6 +40,6 @@ lowered held numbers = (numbers.0, numbers.1, numbers.2, numbers.3 - held)
 pub segment_held : (held : ℕ) (m : Meaning) (i : ℕ)
     → segment_of (held_back held m) i ≡ option_map (lowered held) (segment_of m i)
 segment_held held m i =
-    ap (option_map four) (nth_map (lower held) m.shown.roads i)
+    ap (option_map four) (slice_get-map (lower held) m.shown.roads i)
     ∙ mapped_mapped (lower held) four (slice_get m.shown.roads i)
     ∙ sym (mapped_mapped four (lowered held) (slice_get m.shown.roads i))

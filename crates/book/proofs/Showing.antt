@@ -1,7 +1,7 @@
 -- What a plan shows is in range, and is what a book keeps of it.
-use Rattle.std.proofs.Common.{◌≡◌, ℕ, zero, suc, ◌<◌, ◌≤◌, true, not, ◌&&◌, eqb, ltb, leb, List, [], ◌∷◌, map, length, get_or, take, Some, None, sym, refl, ap, ◌∙◌, subst, arith}
-use Rattle.std.proofs.lemmas.List.{ext_get_or, get_or-map, get_or-take, length-map, length-take}
-use Rattle.std.proofs.lemmas.Option.{slice_get-get_or}
+use Rattle.std.proofs.Common.{◌≡◌, ℕ, ◌+◌, ◌<◌, ◌≤◌, true, not, ◌&&◌, eqb, ltb, leb, List, [], ◌∷◌, ◌++◌, length, get_or, take, Some, sym, ap, ◌∙◌, subst, arith}
+use Rattle.std.proofs.lemmas.List.{get_or-map, length-map, map-append, take_more}
+use Rattle.std.proofs.lemmas.Option.{get_or_from_slice_get, slice_get-get_or, slice_get_within}
 use Rattle.std.proofs.lemmas.Bool.{and_parts, eq-eqb, leb-true, ltb-true, true≢false}
 use Rattle.std.specs.List.{slice_get}
 use Rattle.plan.proofs.Adding.{travel_at_most}
@@ -14,34 +14,23 @@ use Rattle.plan.specs.Rules.{keeps}
 use Rattle.plan.specs.Travel.{travel}
 use Rattle.plan.specs.declared.parts.Segment.{Segment}
 use Rattle.plan.specs.declared.parts.Settings.{Settings}
-use Rattle.book.specs.Meaning.{no_road}
-use Rattle.book.specs.Shown.{Joins, Measures, no_numbers, plan_shown, road_in, road_of, roads_of}
+use Rattle.book.specs.Meaning.{Road, RoadFits, no_road}
+use Rattle.book.specs.Shown.{plan_shown, road_in, road_of, roads_of}
 use Rattle.book.specs.declared.numbers.SegmentNumbers.{SegmentNumbers}
 
 -- ---- what is kept
 
-module _ (n : ℕ) (numbers : List SegmentNumbers) (enough : n ≤ length numbers) where
-  pub roads_length : length (roads_of n numbers) ≡ n
-  roads_length = length-map (take n numbers) road_of ∙ omega (arith, length-take n numbers, enough)
+pub roads_length : (numbers : List SegmentNumbers) → length (roads_of numbers) ≡ length numbers
+roads_length numbers = length-map numbers road_of
 
-  pub road_at : (i : ℕ) → i < n → get_or (roads_of n numbers) i no_road ≡ road_of (get_or numbers i no_numbers)
-  road_at i known =
-      get_or-map road_of (take n numbers) i no_numbers no_road (omega (arith, length-take n numbers, enough, known))
-      ∙ ap road_of (get_or-take n numbers i no_numbers known)
-
--- ---- what a plan shows of a segment
-
-pub road_known : (s : Settings) (gs : List Segment) (i : ℕ) (g : Segment) → slice_get gs i ≡ Some g
-    → get_or (map (road_in s) gs) i no_road ≡ road_in s g
-road_known s [] i g at = absurd (let z : ◌≡◌ {A = ℕ} 0 1 = cc in omega arith)
-road_known s (h ∷ gs) zero g at = let same : h ≡ g = cc in ap (road_in s) same
-road_known s (h ∷ gs) (suc i) g at = road_known s gs i g at
-
-pub road_unknown : (s : Settings) (gs : List Segment) (i : ℕ) → slice_get gs i ≡ None
-    → get_or (map (road_in s) gs) i no_road ≡ no_road
-road_unknown s [] i none = refl
-road_unknown s (h ∷ gs) zero none = absurd (let z : ◌≡◌ {A = ℕ} 0 1 = cc in omega arith)
-road_unknown s (h ∷ gs) (suc i) none = road_unknown s gs i none
+-- the numbers of the next segment
+pub kept_more : (rs : List Road) (numbers : List SegmentNumbers) (i : ℕ) (n : SegmentNumbers) → roads_of numbers ≡ take i rs
+    → Some (road_of n) ≡ slice_get rs i → roads_of (numbers ++ n ∷ []) ≡ take (i + 1) rs
+kept_more rs numbers i n kept next =
+    map-append road_of numbers (n ∷ [])
+    ∙ ap (λ xs. xs ++ road_of n ∷ []) kept
+    ∙ ap (λ r. take i rs ++ r ∷ []) (sym (get_or_from_slice_get rs i (road_of n) no_road (sym next)))
+    ∙ sym (take_more rs i no_road (slice_get_within rs i (road_of n) (sym next)))
 
 -- ---- what a plan shows is in range
 
@@ -50,36 +39,32 @@ in_range low high n fit =
     let parts = and_parts (leb low n) (leb n high) fit in
     (leb-true low n parts.0, leb-true n high parts.1)
 
-road_joins : (s : Settings) (g : Segment) → keeps (segment_rules s g) ≡ true → Joins s.junctions (road_in s g)
-unfolding segment_rules
-road_joins s g fit =
+road_fits : (s : Settings) (g : Segment) → keeps (segment_rules s g) ≡ true → RoadFits s.junctions (road_in s g)
+unfolding segment_rules travel critical
+road_fits s g fit =
     let join = (and_parts (joined s g) (measured g) (and_parts (joined s g && measured g) _ fit).0).0 in
     let start = and_parts (ltb g.start s.junctions) _ join in
-    let end = and_parts (ltb g.end s.junctions) (not (eqb g.start g.end)) start.1 in (
-      ltb-true g.start s.junctions start.0,
-      ltb-true g.end s.junctions end.0,
-      λ same. true≢false (sym end.1 ∙ ap not (eq-eqb g.start g.end same)),
-    )
+    let end = and_parts (ltb g.end s.junctions) (not (eqb g.start g.end)) start.1 in
+    record {
+      start_known = ltb-true g.start s.junctions start.0;
+      end_known = ltb-true g.end s.junctions end.0;
+      no_loop = λ same. true≢false (sym end.1 ∙ ap not (eq-eqb g.start g.end same));
+      takes_a_slot = omega arith;
+      few_slots = travel_at_most s g fit;
+      small_count = omega arith;
+    }
 
-road_measures : (s : Settings) (g : Segment) → keeps (segment_rules s g) ≡ true → Measures (road_in s g)
-unfolding travel critical
-road_measures s g fit = (omega arith, travel_at_most s g fit, omega arith)
-
-shown_road : (c : Content) → Fits c → (i : ℕ) → i < length (plan_shown c).roads
-    → Joins c.settings.junctions (get_or (plan_shown c).roads i no_road)
-    × Measures (get_or (plan_shown c).roads i no_road)
+pub shown_fit : (c : Content) → Fits c → (i : ℕ) → i < length (plan_shown c).roads
+    → RoadFits c.settings.junctions (get_or (plan_shown c).roads i no_road)
 unfolding segments_fit
-shown_road c fits i within =
+shown_fit c fits i within =
     let s = c.settings in
     let none : Segment = record { start = 0; end = 0; length = 0; lanes = 0; class = 0 } in
     let g = get_or c.segments i none in
     let known : i < length c.segments = omega (arith, within, length-map c.segments (road_in s)) in
     let keep = every_nth (λ h. keeps (segment_rules s h)) c.segments i g fits.segments_in_range
     (slice_get-get_or c.segments i none known) in
-    let is = get_or-map (road_in s) c.segments i none no_road known in (
-      subst (Joins s.junctions) (sym is) (road_joins s g keep),
-      subst Measures (sym is) (road_measures s g keep),
-    )
+    subst (RoadFits s.junctions) (sym (get_or-map (road_in s) c.segments i none no_road known)) (road_fits s g keep)
 
 pub record SizesFit (s : Settings) : Type 0 where
   pub some_slot : 1 ≤ s.horizon
@@ -102,28 +87,3 @@ sizes_fit s fit =
       two_junctions = junctions.0;
       few_junctions = junctions.1;
     }
-
--- ---- the numbers of a plan's segments, kept one by one
-
-module _ (c : Content) (fits : Fits c) (n : ℕ) (numbers : List SegmentNumbers) (all : n ≡ length c.segments)
-    (enough : n ≤ length numbers)
-    (each : (i : ℕ) → i < n → road_of (get_or numbers i no_numbers) ≡ get_or (plan_shown c).roads i no_road) where
-  shown_length : length (plan_shown c).roads ≡ n
-  shown_length = length-map c.segments (road_in c.settings) ∙ sym all
-
-  pub roads_kept : roads_of n numbers ≡ (plan_shown c).roads
-  roads_kept =
-      ext_get_or no_road (roads_of n numbers) (plan_shown c).roads (roads_length n numbers enough ∙ sym shown_length)
-      (λ i below.
-      let known : i < n = omega (arith, roads_length n numbers enough, below) in
-      road_at n numbers enough i known ∙ each i known)
-
-  pub roads_join : (i : ℕ) → i < n → Joins c.settings.junctions (get_or (roads_of n numbers) i no_road)
-  roads_join i known =
-      subst (λ rs. Joins c.settings.junctions (get_or rs i no_road)) (sym roads_kept)
-      (shown_road c fits i (omega (arith, known, shown_length))).0
-
-  pub roads_measure : (i : ℕ) → i < n → Measures (get_or (roads_of n numbers) i no_road)
-  roads_measure i known =
-      subst (λ rs. Measures (get_or rs i no_road)) (sym roads_kept)
-      (shown_road c fits i (omega (arith, known, shown_length))).1

@@ -3,6 +3,8 @@ use Rattle.std.proofs.Common.{◌≡◌, ℕ, zero, suc, ◌+◌, ◌-◌, ◌<�
 use Rattle.std.proofs.lemmas.Bool.{cases_eq, cases_lt, cond-false, cond-true, le-ltb, lt-ltb}
 use Rattle.std.proofs.lemmas.Bool.Decides.{nat_tests}
 use Rattle.std.proofs.lemmas.List.{get_or_past}
+use Rattle.std.proofs.lemmas.List.Sums.{sum_by-cons}
+use Rattle.std.specs.List.{range_with_len, sum_by}
 use Rattle.book.specs.Below.{sum_below}
 use Rattle.book.specs.Loads.{holds, load, load_below}
 use Rattle.book.specs.Meaning.{Meaning, Sound, horizon, no_road, road, segments, total}
@@ -50,6 +52,17 @@ module _ (f : ℕ → ℕ) (u : ℕ) where
       let late : cond (holds n u t) (f n) 0 ≡ 0 = cond-false (holds n u t) (f n) 0 (grind (arith, nat_tests)) in
       omega (arith, before, late))
       (cases_eq n t)
+
+  -- the entries from a on, up to the slot, one by one
+  pub window_sum : (a n t : ℕ) → t + 1 ≤ a + u → a + n ≤ t + 1
+      → load_below a f u t + sum_by f (range_with_len a n) ≡ load_below (a + n) f u t
+  window_sum a zero t low high =
+      let none = ap (λ k. load_below k f u t) (let is : a ≡ a + 0 = omega arith in is) in omega (arith, none)
+  window_sum a (suc n) t low high =
+      let more = window_more a t low (omega arith) in
+      let rest = window_sum (a + 1) n t (omega arith) (omega arith) in
+      let last = ap (λ k. load_below k f u t) (let is : a + 1 + n ≡ a + suc n = omega arith in is) in
+      omega (arith, more, rest, last, sum_by-cons f a (range_with_len (a + 1) n))
 
   -- where none enters from n on, the entries below n are all
   window_past : (n k t : ℕ) → n ≤ k → ((e : ℕ) → n ≤ e → f e ≡ 0) → load_below k f u t ≡ load_below n f u t

@@ -7,5 +7,5 @@ abbrev pub shown_of : ShownPlan → Shown
 shown_of p = record {
   horizon = p.horizon;
   junctions = p.junctions;
-  roads = roads_of p.segments p.numbers;
+  roads = roads_of p.numbers.items;
 }

@@ -12,9 +12,6 @@ use plan::Refusal;
 pub trait Book {
     ghost meaning: { Self → Meaning };
 
-    // What every book keeps, proved for every value of the type.
-    ghost sound: { (b : Self) → Sound (meaning b) };
-
     fn sizes(&self) -> Sizes
         ensures { result ≡ sizes_of (meaning self.now) };
 
@@ -51,17 +48,19 @@ pub trait Book {
             return 0;
         };
         let past = slot as u32 + 1;
-        let mut load = 0u32;
-        for start in past.saturating_sub(slots as u32)..past {
-            load += self.standing(Leg {
-                segment,
-                entry: start as u16,
-            }) as u32;
-        }
-        load
+        (past.saturating_sub(slots as u32)..past)
+            .map(|start| {
+                let leg = Leg {
+                    segment,
+                    entry: start as u16,
+                };
+                self.standing(leg) as u32
+            })
+            .sum()
     }
 
-    // Whether the leg is admissible once each critical count is lowered by `held`.
+    // Whether the leg is admissible once each critical count is lowered by `held`. It asks the loads one by one:
+    // `rooms::has_room_held_back` cannot be called here, as a trait's own bodies give less than a bound of it asks.
     fn admissible_held_back(&self, leg: Leg, held: u8) -> bool
         ensures { result ≡ admits (held_back held (meaning self.now)) leg }
     {
@@ -72,27 +71,22 @@ pub trait Book {
             return false;
         };
         let limit = count.saturating_sub(held) as u32;
-        for k in 0..slots as u16 {
-            if self.load(leg.segment, leg.entry + k) >= limit {
-                return false;
-            }
-        }
-        true
+        (leg.entry..leg.entry + slots as u16).all(|slot| self.load(leg.segment, slot) < limit)
     }
 
     // The smallest entry from the slot `from` on that is admissible once each critical count is lowered by `held`.
     fn next_entry_held_back(&self, segment: u16, from: u16, held: u8) -> Option<u16>
         ensures { NextEntry (held_back held (meaning self.now)) segment from result }
     {
-        for slot in from..self.sizes().horizon {
+        (from..self.sizes().horizon).find(|slot| {
             let leg = Leg {
                 segment,
-                entry: slot,
+                entry: *slot,
             };
-            if self.admissible_held_back(leg, held) {
-                return Some(slot);
-            }
-        }
-        None
+            self.admissible_held_back(leg, held)
+        })
     }
+
+    // What every book keeps, proved for every value of the type.
+    ghost sound: { (b : Self) → Sound (meaning b) };
 }

@@ -1,7 +1,7 @@
 // What a book tells of a segment.
 
 // Its start and end junction, its travel slots and its critical count.
-#[derive(Clone, Copy)]
+#[derive(Clone, Copy, Default)]
 pub struct SegmentNumbers {
     pub start: u16,
     pub end: u16,

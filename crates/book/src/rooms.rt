@@ -1,5 +1,5 @@
-// Whether a leg has room, by the standing numbers alone: one pass over the entries whose legs it could meet.
-ghost use Rattle.std.specs.Prelude.{◌≡◌, ◌+◌, ◌-◌, ◌<◌, ◌≤◌};
+// Whether a leg has room, by the loads of the slots that it would hold: one pass over the entries whose legs it could meet.
+ghost use Rattle.std.specs.Prelude.{◌≡◌, ◌+◌, ◌<◌, ◌≤◌};
 ghost use Rattle.book.specs.Layered.{held_back};
 ghost use Rattle.book.specs.Loads.{has_room, load as load_in};
 ghost use Rattle.book.specs.Meaning.{horizon, road, segments};
@@ -8,62 +8,60 @@ ghost use Rattle.book.specs.Rooms.{room_below};
 use crate::books::Book;
 use crate::legs::Leg;
 
-// The load of a slot: the legs that entered in it and in the slots before it that a leg still holds.
-fn load_at<B: Book>(book: &B, segment: u16, slot: u16, slots: u8) -> u32
-    requires known { segment < segments (B.Book.meaning book.now) }
-    requires slots { slots ≡ (road (B.Book.meaning book.now) segment).slots }
-    requires within { slot < horizon (B.Book.meaning book.now) }
-    ensures { result ≡ load_in (B.Book.meaning book.now) segment slot }
-{
-    let first = (slot + 1).saturating_sub(slots as u16);
-    let mut load = 0u32;
-    for start in first..slot + 1 {
-        load += book.standing(Leg {
-            segment,
-            entry: start,
-        }) as u32;
-    }
-    load
+// A slot of a segment and its load, which the legs that entered from `slots - 1` slots before it on make up.
+#[derive(Drop)]
+struct Window<'a, B: Book> {
+    book: &'a B,
+    segment: u16,
+    slots: u8,
+    slot: u16,
+    load: u32,
+    ghost known: { segment < segments (B.Book.meaning book.now) },
+    ghost travel: { slots ≡ (road (B.Book.meaning book.now) segment).slots },
+    ghost loaded: { load ≡ load_in (B.Book.meaning book.now) segment slot },
 }
 
-// The load of the next slot, from that of this one.
-fn load_after<B: Book>(book: &B, segment: u16, slot: u16, slots: u8, load: u32) -> u32
-    requires known { segment < segments (B.Book.meaning book.now) }
-    requires slots { slots ≡ (road (B.Book.meaning book.now) segment).slots }
-    requires within { slot < horizon (B.Book.meaning book.now) }
-    requires load { load ≡ load_in (B.Book.meaning book.now) segment slot }
-    ensures { result ≡ load_in (B.Book.meaning book.now) segment (slot + 1) }
-{
-    let next = slot + 1;
-    let entering = book.standing(Leg {
-        segment,
-        entry: next,
-    }) as u32;
-    let slots = slots as u16;
-    if next < slots {
-        return load + entering;
-    }
-    let leaving = book.standing(Leg {
-        segment,
-        entry: next - slots,
-    }) as u32;
-    load + entering - leaving
-}
-
-fn slots_have_room<B: Book>(book: &B, leg: Leg, slots: u8, limit: u8) -> bool
-    requires known { leg.segment < segments (B.Book.meaning book.now) }
-    requires slots { slots ≡ (road (B.Book.meaning book.now) leg.segment).slots }
-    requires within { leg.entry + slots ≤ horizon (B.Book.meaning book.now) }
-    ensures { result ≡ room_below (B.Book.meaning book.now) leg limit slots }
-{
-    let mut load = load_at(book, leg.segment, leg.entry, slots);
-    for k in 0..slots as u16 {
-        if load >= limit as u32 {
-            return false;
+impl<'a, B: Book> Window<'a, B> {
+    fn new(book: &'a B, leg: Leg, slots: u8) -> Window<'a, B>
+        requires known { leg.segment < segments (B.Book.meaning book.now) }
+        requires travel { slots ≡ (road (B.Book.meaning book.now) leg.segment).slots }
+        ensures book { result.book.now ≡ book.now }
+        ensures segment { result.segment ≡ leg.segment }
+        ensures slot { result.slot ≡ leg.entry }
+    {
+        Window {
+            book,
+            segment: leg.segment,
+            slots,
+            slot: leg.entry,
+            load: book.load(leg.segment, leg.entry),
         }
-        load = load_after(book, leg.segment, leg.entry + k, slots, load);
     }
-    true
+
+    // Moves on to the next slot: legs enter there, and those that entered `slots` slots before it no longer hold it.
+    fn advance(&mut self)
+        requires { self.old.slot < horizon (B.Book.meaning self.old.book.now) }
+        ensures book { self.new.book ≡ self.old.book }
+        ensures segment { self.new.segment ≡ self.old.segment }
+        ensures slot { self.new.slot ≡ self.old.slot + 1 }
+    {
+        let next = self.slot + 1;
+        let mut load = self.load + self.standing(next) as u32;
+        if let Some(gone) = next.checked_sub(self.slots as u16) {
+            load -= self.standing(gone) as u32;
+        }
+        self.load = load;
+        self.slot = next;
+    }
+
+    fn standing(&self, entry: u16) -> u16
+        ensures { result ≡ (B.Book.meaning self.now.book.now).standing self.now.segment entry }
+    {
+        self.book.standing(Leg {
+            segment: self.segment,
+            entry,
+        })
+    }
 }
 
 // Whether a leg that ends by the horizon has room once each critical count is lowered by `held`. Nothing is said of a leg
@@ -80,5 +78,13 @@ pub fn has_room_held_back<B: Book>(book: &B, leg: Leg, held: u8) -> bool
     if leg.entry as u32 + slots as u32 > book.sizes().horizon as u32 {
         return false;
     }
-    slots_have_room(book, leg, slots, count.saturating_sub(held))
+    let limit = count.saturating_sub(held) as u32;
+    let mut window = Window::new(book, leg, slots);
+    for _ in 0..slots {
+        if window.load >= limit {
+            return false;
+        }
+        window.advance();
+    }
+    true
 }

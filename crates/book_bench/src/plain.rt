@@ -1,4 +1,5 @@
-// A layer that changes nothing, and leaves the questions that have a body to that body.
+// A layer that changes nothing, and leaves the questions that have a body to that body. It writes out the calls that it
+// hands down, as every layer does.
 use book::{Book, Leg, Sizes};
 use plan::Refusal;
 

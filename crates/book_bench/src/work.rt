@@ -6,14 +6,14 @@ use search::next_entry;
 use std::time::Instant;
 
 // How many of the next entries from every eighth slot on there are.
-fn found<B: Book>(book: &B, rounds: u16) -> u32 {
-    let mut count = 0u32;
+fn found<B: Book>(book: &B, rounds: u16) -> usize {
+    let mut count = 0usize;
     for _ in 0..rounds {
-        for eighth in 0..64u16 {
-            if next_entry(book, 0, eighth * 8).is_some() {
-                count = count.saturating_add(1);
-            }
-        }
+        let found = (0..512u16)
+            .step_by(8)
+            .filter(|from| next_entry(book, 0, *from).is_some())
+            .count();
+        count = count.saturating_add(found);
     }
     count
 }

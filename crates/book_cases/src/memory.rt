@@ -4,6 +4,7 @@ use crate::roads::*;
 use book::Book;
 use grid_book::GridBook;
 use leg_book::{LegBook, LegRecord};
+use plan::Refusal;
 use std::process::Abort;
 use std::test::Fail;
 
@@ -11,14 +12,14 @@ use std::test::Fail;
 fn keeps_none<B: Book>(rt: &impl Abort, book: &mut B) {
     assert!(rt; !book.admissible(leg(0, 0)));
     assert!(rt; book.next_entry_held_back(1, 0, 0).is_none());
-    assert_eq!(rt; number(book.reserve(leg(0, 0))), 21);
-    assert_eq!(rt; number(book.free(leg(0, 0))), 23);
+    assert_eq!(rt; book.reserve(leg(0, 0)).map_err(Refusal::number), Err(21));
+    assert_eq!(rt; book.free(leg(0, 0)).map_err(Refusal::number), Err(23));
     assert_eq!(rt; book.sizes().segments, 2);
     assert_eq!(rt; book.total(), 0);
 }
 
 fn keeps_a_leg<B: Book>(rt: &impl Abort, book: &mut B) {
-    assert_eq!(rt; number(book.reserve(leg(1, 7))), 0);
+    assert_eq!(rt; book.reserve(leg(1, 7)).map_err(Refusal::number), Ok(()));
     assert_eq!(rt; book.standing(leg(1, 7)), 1);
     assert_eq!(rt; book.total(), 1);
 }
@@ -34,14 +35,6 @@ fn memory_that_suffices(rt: HostRuntime) -> Result<(), Fail> {
     Ok(())
 }
 
-// The byte at a place, 255 past the end.
-fn byte(memory: &[u8], place: usize) -> u8 {
-    match memory.get(place) {
-        Some(byte) => *byte,
-        None => 255,
-    }
-}
-
 #[test]
 fn too_little(rt: HostRuntime) -> Result<(), Fail> {
     let plan = plan_with(&rt, rt.alloc(), 1, 2)?;
@@ -49,9 +42,7 @@ fn too_little(rt: HostRuntime) -> Result<(), Fail> {
     let mut records = [LegRecord::unused(); 1023];
     keeps_none(&rt, &mut GridBook::new(&plan, &mut bytes));
     keeps_none(&rt, &mut LegBook::new(&plan, &mut records));
-    for place in 0..19 {
-        assert_eq!(rt; byte(&bytes, place), 9);
-    }
+    assert_eq!(rt; bytes, [9u8; 19]);
     Ok(())
 }
 
@@ -63,10 +54,10 @@ fn more_than_enough(rt: HostRuntime) -> Result<(), Fail> {
     let mut records = [LegRecord::unused(); 1025];
     keeps_a_leg(&rt, &mut GridBook::new(&plan, &mut bytes));
     keeps_a_leg(&rt, &mut LegBook::new(&plan, &mut records));
-    for place in 0..20 {
-        assert_eq!(rt; byte(&bytes, place), if place == 17 { 1 } else { 0 });
-    }
-    assert_eq!(rt; byte(&bytes, 20), 9);
-    assert_eq!(rt; byte(&bytes, 21), 9);
+    let mut written = [0u8; 22];
+    written[17] = 1;
+    written[20] = 9;
+    written[21] = 9;
+    assert_eq!(rt; bytes, written);
     Ok(())
 }

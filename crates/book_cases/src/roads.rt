@@ -1,20 +1,12 @@
 // Plans for the cases. A slot is one second, and each segment has 10 metres a second: 30 metres take 3 slots.
 use book::Leg;
-use plan::{Closure, Plan, Refusal, Segment, Settings};
+use plan::{Closure, Plan, Segment, Settings};
 use std::alloc::Global;
 use std::process::Abort;
 use std::test::Fail;
 
 pub fn leg(segment: u16, entry: u16) -> Leg {
     Leg { segment, entry }
-}
-
-// The number of a refusal, 0 where there is none.
-pub fn number(answer: Result<(), Refusal>) -> u8 {
-    match answer {
-        Ok(()) => 0,
-        Err(refusal) => refusal.number(),
-    }
 }
 
 // So many lanes of 30 metres have, with 40 carriers per kilometre and lane, a critical count of 1.2 for each lane,

@@ -1,12 +1,18 @@
 -- The bytes of a grid: the places of segments and slots, and what one leg more writes.
-use Rattle.std.proofs.Common.{◌≡◌, ℕ, zero, suc, ◌+◌, ◌-◌, ◌*◌, ◌/◌, ◌%◌, ◌<◌, ◌≤◌, Bool, true, not, ◌≢◌, ◌⊎◌, List, length, get_or, take, drop, set, sym, ap, ◌∙◌, inl, inr, arith}
+use Rattle.std.proofs.Common.{◌≡◌, ℕ, zero, suc, ◌+◌, ◌-◌, ◌*◌, ◌/◌, ◌%◌, ◌<◌, ◌≤◌, true, false, not, ltb, ◌≢◌, ◌⊎◌, List, ◌++◌, replicate, length, get_or, take, drop, set, sym, ap, ◌∙◌, inl, inr, leb, arith, length-set}
+use Rattle.std.proofs.lemmas.Bool.{and_from, cases_Bool, false≢true, leb-true, lt-ltb}
 use Rattle.std.proofs.lemmas.Nat.{div-mul-add, mod-mul-add, mul-add-lt}
-use Rattle.std.proofs.lemmas.List.{get_or-drop, get_or-set_other, get_or-set_same, get_or-take, length-drop, length-take}
-use Rattle.book.proofs.Bottoms.{Keeps, bottom_at, bottom_more, bottom_none, bottom_row, total_bottom_none, total_more}
-use Rattle.book.specs.Bottom.{no_legs}
-use Rattle.book.specs.Meaning.{Shown, plus, total}
+use Rattle.std.proofs.lemmas.List.{length-replicate, get_or-replicate, get_or_append_left, get_or-drop, get_or-set_other, get_or-set_same, get_or-take, length-drop, length-take}
+use Rattle.book.proofs.Bottoms.{Keeps, bottom_at, bottom_more, bottom_none, bottom_row, total_bottom_none}
+use Rattle.book.proofs.Calling.{admitted_kept}
+use Rattle.book.proofs.Loading.{total_counts}
+use Rattle.book.specs.Bottom.{bottom, keeps_at, no_legs}
+use Rattle.book.specs.Meaning.{Shown, ShownFits, plus, road, total}
+use Rattle.book.specs.Loads.{admissible}
+use Rattle.book.specs.Rows.{IsRow}
 use Rattle.book.specs.declared.legs.Leg.{Leg}
-use Rattle.grid_book.specs.Grid.{byte_at, bytes_of, grid_meaning}
+use Rattle.book.specs.declared.rows.Row.{Row}
+use Rattle.grid_book.specs.Grid.{byte_at, bytes_of, grid_meaning, suffices}
 
 -- ---- places
 
@@ -26,33 +32,66 @@ place_apart h i e j k within also (inl apart) same =
 place_apart h i e j k within also (inr apart) same =
     apart (sym (sym (mod-mul-add j h k also) ∙ ap (λ n. n % h) same ∙ mod-mul-add i h e within))
 
-module _ (s : Shown) (kept : Bool) (cells : List ℕ) (room : kept ≡ true → bytes_of s ≤ length cells) where
+module _ (s : Shown) (cells : List ℕ) where
+  room : suffices s cells ≡ true → bytes_of s ≤ length cells
+  room = leb-true (bytes_of s) (length cells)
+
   -- ---- the row of a segment
 
-  -- the bytes of a segment, slot after slot
-  abbrev row : ℕ → List ℕ
-  row i = take s.horizon (drop (i * s.horizon) cells)
+  -- its bytes, slot after slot
+  module _ (i first n : ℕ) (keeps : suffices s cells ≡ true) (known : i < length s.roads)
+      (at : first ≡ i * s.horizon) (is : n ≡ s.horizon) where
+    pub row_ends : first + n ≤ length cells
+    row_ends = omega (arith, room keeps, row_within s.horizon (length s.roads) i known, at, is)
 
-  pub row_length : (i : ℕ) → kept ≡ true → i < length s.roads → length (row i) ≡ s.horizon
-  row_length i keeps known =
-      let h = s.horizon in
-      let room_here = room keeps in
-      let next = row_within h (length s.roads) i known in
-      length-take h (drop (i * h) cells) ∙ omega (arith, length-drop (i * h) cells, room_here, next)
+    row_length : length (take n (drop first cells)) ≡ s.horizon
+    row_length = length-take n (drop first cells) ∙ omega (arith, length-drop first cells, row_ends, is)
 
-  pub row_stands : (i : ℕ) → kept ≡ true → i < length s.roads
-      → (e : ℕ) → (grid_meaning s kept cells).standing i e ≡ get_or (row i) e 0
-  row_stands i keeps known =
-      bottom_row s kept (byte_at s cells) i (row i) keeps known (row_length i keeps known)
-      (λ e within.
-      sym (get_or-take s.horizon (drop (i * s.horizon) cells) e 0 within ∙ get_or-drop (i * s.horizon) cells e 0))
+    row_stands : (e : ℕ) → (grid_meaning s cells).standing i e ≡ get_or (take n (drop first cells)) e 0
+    row_stands =
+        bottom_row s (suffices s cells) (byte_at s cells) i (take n (drop first cells)) keeps known row_length
+        (λ e within.
+        sym (get_or-take n (drop first cells) e 0 (omega (arith, is, within)) ∙ get_or-drop first cells e 0
+        ∙ ap (λ k. get_or cells (k + e) 0) at))
+
+    pub is_row : (row : Row) → row.entering.now ≡ take n (drop first cells)
+        → row.slots ≡ (road (grid_meaning s cells) i).slots → row.limit ≡ (road (grid_meaning s cells) i).count
+        → IsRow (grid_meaning s cells) i row
+    is_row row bytes slots limit =
+        record {
+          known = known;
+          unbarred = λ e. ap not keeps;
+          long = ap length bytes ∙ row_length;
+          counts = λ e. row_stands e ∙ ap (λ xs. get_or xs e 0) (sym bytes);
+          slots = slots;
+          limit = limit;
+        }
+
+  -- ---- a leg that the book does not keep
+
+  pub unkept : (l : Leg) → ShownFits s → keeps_at s (suffices s cells) l.segment l.entry ≡ false
+      → admissible (grid_meaning s cells) l ≡ false
+  unkept l fits none =
+      elim (cases_Bool (admissible (grid_meaning s cells) l)) [
+        | inl admitted ↦
+            let at = admitted_kept s (suffices s cells) (byte_at s cells) l fits admitted in
+            let told = and_from (suffices s cells) _ at.keeps
+            (and_from (ltb l.segment (length s.roads)) _ (lt-ltb l.segment (length s.roads) at.known)
+            (lt-ltb l.entry s.horizon at.within)) in
+            absurd (false≢true (sym none ∙ told))
+        | inr not_admitted ↦ not_admitted
+      ]
 
   -- ---- a byte is written
 
-  module _ (l : Leg) (p : ℕ) (at : Keeps s kept l.segment l.entry)
+  module _ (l : Leg) (p : ℕ) (at : Keeps s (suffices s cells) l.segment l.entry)
       (is : p ≡ l.segment * s.horizon + l.entry) where
-    pub reads : get_or cells p 0 ≡ (grid_meaning s kept cells).standing l.segment l.entry
-    reads = ap (λ q. get_or cells q 0) is ∙ sym (bottom_at s kept (byte_at s cells) l.segment l.entry at)
+    pub reads : get_or cells p 0 ≡ (grid_meaning s cells).standing l.segment l.entry
+    reads = ap (λ q. get_or cells q 0) is ∙ sym (bottom_at s (suffices s cells) (byte_at s cells) l.segment l.entry at)
+
+    -- the memory suffices as before
+    still : (n : ℕ) → suffices s (set cells p n) ≡ suffices s cells
+    still n = ap (leb (bytes_of s)) (length-set cells p n)
 
     written : (n : ℕ) → byte_at s (set cells p n) l.segment l.entry ≡ n
     written n =
@@ -65,7 +104,7 @@ module _ (s : Shown) (kept : Bool) (cells : List ℕ) (room : kept ≡ true → 
           place_within s.horizon (length s.roads) l.segment l.entry at.known at.within,
         ))
 
-    kept_elsewhere : (n i e : ℕ) → Keeps s kept i e → (l.segment ≢ i) ⊎ (l.entry ≢ e)
+    kept_elsewhere : (n i e : ℕ) → Keeps s (suffices s cells) i e → (l.segment ≢ i) ⊎ (l.entry ≢ e)
         → byte_at s (set cells p n) i e ≡ byte_at s cells i e
     kept_elsewhere n i e there apart =
         get_or-set_other cells p (i * s.horizon + e) n 0
@@ -74,44 +113,51 @@ module _ (s : Shown) (kept : Bool) (cells : List ℕ) (room : kept ≡ true → 
     read_there : byte_at s cells l.segment l.entry ≡ get_or cells p 0
     read_there = ap (λ q. get_or cells q 0) (sym is)
 
-    pub one_more : grid_meaning s kept (set cells p (get_or cells p 0 + 1)) ≡ plus (grid_meaning s kept cells) l
+    pub one_more : grid_meaning s (set cells p (get_or cells p 0 + 1)) ≡ plus (grid_meaning s cells) l
     one_more =
         let n = get_or cells p 0 + 1 in
-        bottom_more s kept (byte_at s cells) (byte_at s (set cells p n)) l at (omega (arith, written n, read_there))
-        (kept_elsewhere n)
+        ap (λ kept. bottom s kept (byte_at s (set cells p n))) (still n)
+        ∙ bottom_more s (suffices s cells) (byte_at s cells) (byte_at s (set cells p n)) l at
+        (omega (arith, written n, read_there)) (kept_elsewhere n)
 
-    pub counts_more : total (grid_meaning s kept (set cells p (get_or cells p 0 + 1)))
-        ≡ total (grid_meaning s kept cells) + 1
-    counts_more =
-        let n = get_or cells p 0 + 1 in
-        total_more s kept (byte_at s cells) (byte_at s (set cells p n)) l at (omega (arith, written n, read_there))
-        (kept_elsewhere n)
+    pub counts_more : total (grid_meaning s (set cells p (get_or cells p 0 + 1))) ≡ total (grid_meaning s cells) + 1
+    counts_more = ap total one_more ∙ total_counts (grid_meaning s cells) l at.known at.within
 
     module _ (some : 1 ≤ get_or cells p 0) where
-      pub one_less : grid_meaning s kept cells ≡ plus (grid_meaning s kept (set cells p (get_or cells p 0 - 1))) l
+      pub one_less : grid_meaning s cells ≡ plus (grid_meaning s (set cells p (get_or cells p 0 - 1))) l
       one_less =
           let n = get_or cells p 0 - 1 in
-          bottom_more s kept (byte_at s (set cells p n)) (byte_at s cells) l at
+          bottom_more s (suffices s cells) (byte_at s (set cells p n)) (byte_at s cells) l at
           (omega (arith, written n, read_there, some))
           (λ i e there apart. sym (kept_elsewhere n i e there apart))
+          ∙ ap (λ kept. plus (bottom s kept (byte_at s (set cells p n))) l) (sym (still n))
 
-      pub counts_less : total (grid_meaning s kept cells)
-          ≡ total (grid_meaning s kept (set cells p (get_or cells p 0 - 1))) + 1
+      pub counts_less : total (grid_meaning s cells)
+          ≡ total (grid_meaning s (set cells p (get_or cells p 0 - 1))) + 1
       counts_less =
-          let n = get_or cells p 0 - 1 in
-          total_more s kept (byte_at s (set cells p n)) (byte_at s cells) l at
-          (omega (arith, written n, read_there, some))
-          (λ i e there apart. sym (kept_elsewhere n i e there apart))
+          ap total one_less ∙ total_counts (grid_meaning s (set cells p (get_or cells p 0 - 1))) l at.known at.within
 
 -- ---- no leg
 
-module _ (s : Shown) (kept : Bool) (cells : List ℕ)
-    (cleared : kept ≡ true → (k : ℕ) → k < bytes_of s → get_or cells k 0 ≡ 0) where
-  none : (i e : ℕ) → Keeps s kept i e → byte_at s cells i e ≡ 0
-  none i e at = cleared at.keeps _ (place_within s.horizon (length s.roads) i e at.known at.within)
+-- where the memory suffices, the bytes that the book uses are cleared
+pub grid_none : (s : Shown) (cells : List ℕ)
+    → (suffices s cells ≡ true → (k : ℕ) → k < bytes_of s → get_or cells k 0 ≡ 0)
+    → grid_meaning s cells ≡ no_legs s (not (suffices s cells))
+grid_none s cells cleared =
+    bottom_none s (suffices s cells) (byte_at s cells)
+    (λ i e at. cleared at.keeps _ (place_within s.horizon (length s.roads) i e at.known at.within))
 
-  pub grid_none : grid_meaning s kept cells ≡ no_legs s (not kept)
-  grid_none = bottom_none s kept (byte_at s cells) none
+pub counts_none : (s : Shown) (cells : List ℕ)
+    → (suffices s cells ≡ true → (k : ℕ) → k < bytes_of s → get_or cells k 0 ≡ 0) → total (grid_meaning s cells) ≡ 0
+counts_none s cells cleared =
+    total_bottom_none s (suffices s cells) (byte_at s cells)
+    (λ i e at. cleared at.keeps _ (place_within s.horizon (length s.roads) i e at.known at.within))
 
-  pub counts_none : total (grid_meaning s kept cells) ≡ 0
-  counts_none = total_bottom_none s kept (byte_at s cells) none
+-- the first n bytes of memory are filled with 0
+pub filled : (n : ℕ) (part memory now : List ℕ) → part ≡ replicate (length (take n memory)) 0 → now ≡ part ++ drop n memory
+    → n ≤ length memory → (k : ℕ) → k < n → get_or now k 0 ≡ 0
+filled n part memory now is joined enough k below =
+    let long : k < length (take n memory) = omega (arith, length-take n memory, enough, below) in
+    ap (λ xs. get_or xs k 0) joined
+    ∙ get_or_append_left part (drop n memory) 0 k (omega (arith, ap length is, length-replicate {A = ℕ} (length (take n memory)) 0, long))
+    ∙ ap (λ xs. get_or xs k 0) is ∙ get_or-replicate (length (take n memory)) k 0 0 long

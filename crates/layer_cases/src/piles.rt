@@ -12,12 +12,9 @@ fn leg(entry: u16) -> Leg {
     Leg { segment: 0, entry }
 }
 
-// The number of a refusal, 0 where there is none.
-fn number(answer: Result<(), Refusal>) -> u8 {
-    match answer {
-        Ok(()) => 0,
-        Err(refusal) => refusal.number(),
-    }
+// The answer of a call, with the number of a refusal.
+fn numbered(answer: Result<(), Refusal>) -> Result<(), u8> {
+    answer.map_err(Refusal::number)
 }
 
 fn closure(segment: u16, first: u16, end: u16) -> Closure {
@@ -55,37 +52,32 @@ fn plan_with(rt: &impl Abort, heap: Global, closures: &[Closure]) -> Result<Plan
 }
 
 #[test]
-fn hold_back_lowers_the_count(rt: HostRuntime) -> Result<(), Fail> {
+fn hold_back_lowers_the_count(rt: HostRuntime) {
     let mut layer = HoldBackLayer::new(RowBook::new(3, 2), 1);
-    let Some((_, _, slots, count)) = layer.segment(0) else {
-        return Err(Fail::new("no segment"));
-    };
-    assert_eq!(rt; slots, 3);
-    assert_eq!(rt; count, 1);
-    assert_eq!(rt; number(layer.reserve(leg(5))), 0);
+    assert_eq!(rt; layer.segment(0), Some((0, 1, 3, 1)));
+    assert_eq!(rt; numbered(layer.reserve(leg(5))), Ok(()));
     for entry in 0..20u16 {
         assert_eq!(rt;
             layer.admissible(leg(entry)),
             entry <= 2 || entry >= 8 && entry <= 17
         );
     }
-    assert_eq!(rt; number(layer.reserve(leg(7))), 21);
+    assert_eq!(rt; numbered(layer.reserve(leg(7))), Err(21));
     assert_eq!(rt; layer.total(), 1);
-    Ok(())
 }
 
 #[test]
 fn hold_back_of_all(rt: HostRuntime) {
     let mut row = RowBook::new(3, 255);
-    assert_eq!(rt; number(row.reserve(leg(4))), 0);
+    assert_eq!(rt; numbered(row.reserve(leg(4))), Ok(()));
     let mut layer = HoldBackLayer::new(row, 255);
     for entry in 0..20u16 {
         assert!(rt; !layer.admissible(leg(entry)));
     }
-    assert_eq!(rt; number(layer.reserve(leg(9))), 21);
+    assert_eq!(rt; numbered(layer.reserve(leg(9))), Err(21));
     assert_eq!(rt; layer.standing(leg(4)), 1);
-    assert_eq!(rt; number(layer.free(leg(4))), 0);
-    assert_eq!(rt; number(layer.free(leg(4))), 23);
+    assert_eq!(rt; numbered(layer.free(leg(4))), Ok(()));
+    assert_eq!(rt; numbered(layer.free(leg(4))), Err(23));
     assert_eq!(rt; layer.total(), 0);
 }
 
@@ -101,9 +93,9 @@ fn closures_that_touch_and_overlap(rt: HostRuntime) -> Result<(), Fail> {
             entry <= 2 || entry >= 10 && entry <= 17
         );
     }
-    assert_eq!(rt; number(layer.reserve(leg(3))), 21);
-    assert_eq!(rt; number(layer.reserve(leg(2))), 0);
-    assert_eq!(rt; number(layer.reserve(leg(2))), 21);
+    assert_eq!(rt; numbered(layer.reserve(leg(3))), Err(21));
+    assert_eq!(rt; numbered(layer.reserve(leg(2))), Ok(()));
+    assert_eq!(rt; numbered(layer.reserve(leg(2))), Err(21));
     Ok(())
 }
 
@@ -120,14 +112,14 @@ fn closure_of_an_unknown_segment(rt: HostRuntime) -> Result<(), Fail> {
 
 // The slots 5 to 7 are closed, and one leg holds a slot at a time.
 fn answers_of_a_pile<B: Book>(rt: &impl Abort, pile: &mut B) {
-    assert_eq!(rt; number(pile.reserve(leg(0))), 0);
-    assert_eq!(rt; number(pile.reserve(leg(0))), 21);
-    assert_eq!(rt; number(pile.reserve(leg(8))), 0);
+    assert_eq!(rt; numbered(pile.reserve(leg(0))), Ok(()));
+    assert_eq!(rt; numbered(pile.reserve(leg(0))), Err(21));
+    assert_eq!(rt; numbered(pile.reserve(leg(8))), Ok(()));
     for entry in 0..20u16 {
         assert_eq!(rt; pile.admissible(leg(entry)), entry >= 11 && entry <= 17);
     }
-    assert_eq!(rt; number(pile.free(leg(0))), 0);
-    assert_eq!(rt; number(pile.free(leg(0))), 23);
+    assert_eq!(rt; numbered(pile.free(leg(0))), Ok(()));
+    assert_eq!(rt; numbered(pile.free(leg(0))), Err(23));
     for entry in 0..20u16 {
         assert_eq!(rt;
             pile.admissible(leg(entry)),

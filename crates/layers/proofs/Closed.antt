@@ -1,6 +1,8 @@
 -- Until when an entry is closed.
-use Rattle.std.proofs.Common.{◌≡◌, ℕ, ◌+◌, ◌<◌, ◌≤◌, Bool, true, false, not, ◌&&◌, eqb, List, length, get_or, is_some, Some, None, Option, refl, ap, ◌∙◌, inl, inr, ⊎_elim, arith}
+use Rattle.std.proofs.Common.{◌≡◌, ℕ, suc, ◌+◌, ◌<◌, ◌≤◌, Bool, true, false, not, ◌&&◌, eqb, List, [], ◌∷◌, length, sym, subst, get_or, is_some, Some, None, Option, refl, ap, ◌∙◌, inl, inr, ⊎_elim, arith}
 use Rattle.std.proofs.lemmas.Bool.{and_from, and_left, and_parts, and_right, cases_Bool, cases_lt}
+use Rattle.std.specs.List.{AllWithin, HoldsAt}
+use Rattle.std.specs.Option.{MatchOption, option_map}
 use Rattle.plan.specs.declared.parts.Closure.{Closure}
 use Rattle.book.specs.Layered.{any_below, closed, closed_by, closing, covers, held_back}
 use Rattle.book.specs.Loads.{admissible}
@@ -20,18 +22,37 @@ open_told closed e (Some slot) told some is =
     let shut : closed e ≡ true = some.1 e (omega arith) some.0 in
     grind (arith, shut, is)
 
+-- whether a closure bars an entry of segment i, where a leg takes u slots
+abbrev pub bars : ℕ → ℕ → ℕ → Closure → Bool
+bars i u e k = eqb k.segment i && any_below u (λ j. covers k (e + j))
+
+none_closes : (ks : List Closure) (i u e : ℕ) → AllWithin (λ k. bars i u e k ≡ false) ks 0 (length ks)
+    → closed_by ks i u e ≡ false
+none_closes [] i u e none = refl
+none_closes (k ∷ ks) i u e none =
+    let here = none 0 k (omega arith) (omega arith) in
+    let rest = none_closes ks i u e (λ n d later below. none (suc n) d (omega arith) (omega arith)) in
+    grind (arith, here, rest)
+
 -- a closure that bars an entry closes the segment until its end
-pub closed_to_end : (ks : List Closure) (n : ℕ) (d : Closure) (i u e : ℕ) → n < length ks → 1 ≤ u
-    → (eqb (get_or ks n d).segment i && any_below u (λ j. covers (get_or ks n d) (e + j))) ≡ true
-    → ClosedUntil (closed_by ks i u) e (Some (get_or ks n d).end)
-closed_to_end ks n d i u e within some barred =
-    let k = get_or ks n d in
+closed_to_end : (ks : List Closure) (n : ℕ) (k : Closure) (i u e : ℕ) → n < length ks → ((d : Closure) → get_or ks n d ≡ k)
+    → bars i u e k ≡ true → ClosedUntil (closed_by ks i u) e (Some k.end)
+closed_to_end ks n k i u e within is barred =
     let parts = and_parts (eqb k.segment i) (any_below u (λ j. covers k (e + j))) barred in (
       covers_before_end k e u parts.1,
       λ x later before.
-          closed_by_one ks n d i u x within (and_from (eqb k.segment i) _ parts.0
-          (covers_through k e u x some parts.1 later before)),
+          closed_by_one ks n k i u x within (subst (λ h. bars i u x h ≡ true) (sym (is k))
+          (and_from (eqb k.segment i) _ parts.0 (covers_through k e u x parts.1 later before))),
     )
+
+-- the first closure that bars an entry tells until when it is closed
+pub until_told : {A : Type 0} (v : A → Closure) (ks : List Closure) (i u e : ℕ) (found : Option A)
+    → MatchOption found (AllWithin (λ k. bars i u e k ≡ false) ks 0 (length ks))
+    (λ x. (bars i u e (v x) ≡ true) × (n : ℕ) × (n < length ks) × HoldsAt (λ k. k ≡ v x) ks n
+    × AllWithin (λ k. bars i u e k ≡ false) ks 0 n)
+    → ClosedUntil (closed_by ks i u) e (option_map (λ x. (v x).end) found)
+until_told v ks i u e None none = none_closes ks i u e none
+until_told v ks i u e (Some x) some = closed_to_end ks some.1 (v x) i u e some.2 some.3 some.0
 
 -- ---- the next open entry, where the book below has been asked from the slot `first` on
 module _ (held : ℕ) (ks : List Closure) (m : Meaning) (i : ℕ) where

@@ -1,11 +1,10 @@
 -- The closures that a closure layer keeps.
-use Rattle.std.specs.Prelude.{◌≡◌, ℕ, ◌<◌, ◌≤◌, min, Bool, true, false, List, take, Some, None, Option}
-use Rattle.plan.specs.Limits.{most_closures}
+use Rattle.std.specs.Prelude.{◌≡◌, ℕ, ◌<◌, ◌≤◌, Bool, true, false, List, Some, None, Option}
 use Rattle.plan.specs.declared.parts.Closure.{Closure}
 use Rattle.layers.specs.declared.closures.ClosureLayer.{ClosureLayer}
 
 abbrev pub kept_closures : {B : Type 0} → ClosureLayer B → List Closure
-kept_closures l = take (min l.count most_closures) l.closures
+kept_closures l = l.closures.items
 
 -- the entries from e up to the one before a later slot are closed; none where e is open
 abbrev pub ClosedUntil : (ℕ → Bool) → ℕ → Option ℕ → Type 0

@@ -1,12 +1,14 @@
 // A layer that bars what a plan's closures cover.
+use arrayvec::ArrayVec;
 use plan::Closure;
+use plan::limits::MOST_CLOSURES;
 
 pub mod layer;
 
-// The closures are the first `count` of `closures`.
+const CLOSURES: usize = MOST_CLOSURES as usize;
+
 #[derive(Drop)]
 pub struct ClosureLayer<B> {
     below: B,
-    closures: [Closure; 16],
-    count: usize,
+    closures: ArrayVec<Closure, CLOSURES>,
 }

@@ -3,7 +3,6 @@ ghost use Rattle.std.specs.Prelude.{◌≡◌};
 ghost use Rattle.book.proofs.Layering.{held_sound};
 ghost use Rattle.book.specs.Layered.{held_back};
 
-use book::rooms::has_room_held_back;
 use book::{Book, Leg, Sizes};
 use plan::Refusal;
 
@@ -46,7 +45,7 @@ impl<B: Book> Book for HoldBackLayer<B> {
     }
 
     fn admissible(&self, leg: Leg) -> bool {
-        self.below.admissible(leg) && has_room_held_back(&self.below, leg, self.held)
+        self.below.admissible_held_back(leg, self.held)
     }
 
     fn reserve(&mut self, leg: Leg) -> Result<(), Refusal> {

@@ -1,4 +1,3 @@
 pub mod Records
 pub mod Collecting
 pub mod Stores
-pub mod Tables

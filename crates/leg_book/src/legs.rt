@@ -10,18 +10,16 @@ use book::ShownPlan;
 
 pub mod booked;
 
-// Over too little memory `kept` is false: the book bars every leg and writes nothing. `count` is how many legs stand.
-// The first 1,024 records are scanned; those past them are never read nor written.
+// Over too little memory the book bars every leg and writes nothing. `count` is how many legs stand. The first 1,024
+// records are scanned; those past them are never read nor written.
 #[derive(Drop)]
 pub struct LegBook<'a> {
     plan: ShownPlan,
-    kept: bool,
     count: u16,
     records: &'a mut [LegRecord],
-    ghost room: { kept ≡ true → most_legs ≤ length records.now },
-    ghost legal: { kept ≡ true → (k : ℕ) → (slice_index_or (part_used records.now) k no_record).used ≡ true
-        → in_plan (shown_of plan) (slice_index_or (part_used records.now) k no_record) ≡ true },
-    ghost small: { kept ≡ true → (i e : ℕ) → count_at (part_used records.now) i e ≤ most_count },
-    ghost counted: { count ≡ total (legs_meaning (shown_of plan) kept records.now) },
+    ghost legal: { most_legs ≤ length records.now
+        → (k : ℕ) → in_plan (shown_of plan) (slice_index_or (part_used records.now) k no_record) ≡ true },
+    ghost small: { most_legs ≤ length records.now → (i e : ℕ) → count_at (part_used records.now) i e ≤ most_count },
+    ghost counted: { count ≡ total (legs_meaning (shown_of plan) records.now) },
     ghost few: { count ≤ most_legs },
 }

@@ -1,16 +1,18 @@
 // What the grid book does.
-ghost use Rattle.std.specs.Prelude.{◌≡◌, ℕ, ◌+◌, ◌*◌, ◌<◌, ◌≤◌, true, length, take, drop, nat_le, nat_lt, slice_index};
+ghost use Rattle.std.specs.Prelude.{◌≡◌, ◌+◌, ◌*◌, ◌<◌, ◌≤◌, false, length, drop, MatchOption, nat_le, nat_lt};
 ghost use Rattle.plan.specs.Content.{content};
 ghost use Rattle.book.proofs.Bottoms.{Keeps};
-ghost use Rattle.book.specs.Bottom.{no_legs};
+ghost use Rattle.book.specs.Bottom.{keeps_at, no_legs};
+ghost use Rattle.book.specs.Meaning.{sizes_of};
+ghost use Rattle.book.specs.Rows.{IsRow, NoRow};
 ghost use Rattle.book.specs.Shown.{plan_shown};
 ghost use Rattle.book.specs.ShownPlan.{shown_of};
-ghost use Rattle.grid_book.specs.Grid.{bytes_of};
+ghost use Rattle.grid_book.specs.Grid.{bytes_of, suffices};
 ghost use Rattle.grid_book.specs.GridBook.{grid_of, grid_sound};
 
 use super::GridBook;
-use book::rows::{first_entry, load_of};
-use book::{Book, Leg, ShownPlan, Sizes};
+use book::rows::{Row, Rows};
+use book::{Book, Leg, ShownPlan, Sizes, rows};
 use plan::limits::MOST_LEGS;
 use plan::{Plan, Refusal};
 
@@ -28,17 +30,6 @@ pub fn memory_suffices(plan: &Plan, length: usize) -> bool
     grid_bytes(plan) <= length
 }
 
-// Writes 0 into the first `n` bytes.
-fn clear(cells: &mut [u8], n: usize)
-    requires { n ≤ length cells.old }
-    ensures cleared { (k : ℕ) → k < n → slice_index cells.new k ≡ 0 }
-    ensures rest { drop n cells.new ≡ drop n cells.old }
-{
-    for k in 0..n {
-        cells[k] = 0;
-    }
-}
-
 impl<'a> GridBook<'a> {
     // A book in which no leg stands. It clears the bytes that it uses and leaves the rest of the memory. Over too
     // little memory it bars every leg, and leaves all of it.
@@ -51,47 +42,82 @@ impl<'a> GridBook<'a> {
             ≡ drop (bytes_of (plan_shown (content plan.now))) memory.old }
         ensures lent { result.cells.ghost_name ≡ memory.entry.ghost_name }
     {
-        let shown = ShownPlan::new(plan);
         let bytes = grid_bytes(plan);
-        if memory.len() < bytes {
-            return GridBook {
-                plan: shown,
-                kept: false,
-                count: 0,
-                cells: memory,
-            };
+        if bytes <= memory.len() {
+            memory[..bytes].fill(0);
         }
-        clear(memory, bytes);
         GridBook {
-            plan: shown,
-            kept: true,
+            plan: ShownPlan::new(plan),
             count: 0,
             cells: memory,
         }
     }
 
-    // The place of the byte for the leg.
-    fn place(&self, leg: Leg) -> usize
-        requires { Keeps (shown_of self.now.plan) self.now.kept leg.segment leg.entry }
-        ensures is { result ≡ leg.segment * self.now.plan.horizon + leg.entry }
-        ensures inside { result < length self.now.cells.now }
+    // Whether the memory suffices for a plan of these sizes. The sizes are asked for once and passed on, since the place
+    // of a leg is what a search asks most.
+    fn has_memory(&self, sizes: Sizes) -> bool
+        requires { sizes ≡ sizes_of (grid_of self.now) }
+        ensures { result ≡ suffices (shown_of self.now.plan) self.now.cells.now }
     {
-        leg.segment as usize * self.plan.sizes().horizon as usize + leg.entry as usize
+        sizes.segments as usize * sizes.horizon as usize <= self.cells.len()
     }
 
-    // The bytes of the segment, slot after slot.
-    fn row(&self, segment: u16) -> &[u8]
-        requires kept { self.now.kept ≡ true }
-        requires known { segment < length (shown_of self.now.plan).roads }
-        ensures { result.now ≡ take self.now.plan.horizon
-            (drop (segment * self.now.plan.horizon) self.now.cells.now) }
+    // Whether the memory suffices and the plan has the leg.
+    fn keeps(&self, sizes: Sizes, leg: Leg) -> bool
+        requires { sizes ≡ sizes_of (grid_of self.now) }
+        ensures { result ≡ keeps_at (shown_of self.now.plan) (suffices (shown_of self.now.plan) self.now.cells.now)
+            leg.segment leg.entry }
     {
-        let horizon = self.plan.sizes().horizon as usize;
+        self.has_memory(sizes) && leg.segment < sizes.segments && leg.entry < sizes.horizon
+    }
+
+    // The place of the byte for the leg, if the book keeps it.
+    fn place(&self, leg: Leg) -> Option<usize>
+        ensures { MatchOption result
+            (keeps_at (shown_of self.now.plan) (suffices (shown_of self.now.plan) self.now.cells.now)
+            leg.segment leg.entry ≡ false)
+            (λ place. (place < length self.now.cells.now)
+            × (place ≡ leg.segment * self.now.plan.horizon + leg.entry)
+            × Keeps (shown_of self.now.plan) (suffices (shown_of self.now.plan) self.now.cells.now)
+            leg.segment leg.entry) }
+    {
+        let sizes = self.sizes();
+        self.keeps(sizes, leg).then_some(
+            leg.segment as usize * sizes.horizon as usize + leg.entry as usize,
+        )
+    }
+
+    // The row of the segment is its bytes, slot after slot.
+    fn row(&self, segment: u16) -> Option<Row<'_>>
+        ensures { MatchOption result (NoRow (grid_of self.now) segment) (IsRow (grid_of self.now) segment) }
+    {
+        let (_, _, slots, limit) = self.segment(segment)?;
+        let sizes = self.sizes();
+        if !self.has_memory(sizes) {
+            return None;
+        }
+        let horizon = sizes.horizon as usize;
         let first = segment as usize * horizon;
-        &self.cells[first..first + horizon]
+        let entering = &self.cells[first..first + horizon];
+        Some(Row {
+            entering,
+            slots,
+            limit,
+        })
     }
 }
 
+impl<'a> Rows for GridBook<'a> {
+    ghost meaning = { grid_of };
+
+    ghost sound = { grid_sound };
+
+    fn with_row<T, F: FnOnce(Row<'_>) -> T>(&self, segment: u16, ask: F) -> Option<T> {
+        self.row(segment).map(ask)
+    }
+}
+
+// What is the same in both bottom books stands in `ShownPlan` and `rows`; the calls here only name it.
 impl<'a> Book for GridBook<'a> {
     ghost meaning = { grid_of };
 
@@ -106,12 +132,7 @@ impl<'a> Book for GridBook<'a> {
     }
 
     fn standing(&self, leg: Leg) -> u16 {
-        let sizes = self.plan.sizes();
-        if self.kept && leg.segment < sizes.segments && leg.entry < sizes.horizon {
-            self.cells[self.place(leg)] as u16
-        } else {
-            0
-        }
+        self.place(leg).map_or(0, |place| self.cells[place] as u16)
     }
 
     fn total(&self) -> u16 {
@@ -123,60 +144,37 @@ impl<'a> Book for GridBook<'a> {
     }
 
     fn reserve(&mut self, leg: Leg) -> Result<(), Refusal> {
+        let place = self.place(leg).ok_or(Refusal::LegNotAdmissible)?;
         if !self.admissible(leg) {
             return Err(Refusal::LegNotAdmissible);
         }
         if self.count >= MOST_LEGS {
             return Err(Refusal::LegsFull);
         }
-        let place = self.place(leg);
-        let entering = self.cells[place];
-        self.cells[place] = entering + 1;
+        self.cells[place] += 1;
         self.count += 1;
         Ok(())
     }
 
     fn free(&mut self, leg: Leg) -> Result<(), Refusal> {
-        if self.standing(leg) == 0 {
-            return Err(Refusal::LegNotStanding);
-        }
-        let place = self.place(leg);
-        let entering = self.cells[place];
-        self.cells[place] = entering - 1;
+        let place = self.place(leg).ok_or(Refusal::LegNotStanding)?;
+        let left = self.cells[place]
+            .checked_sub(1)
+            .ok_or(Refusal::LegNotStanding)?;
+        self.cells[place] = left;
         self.count -= 1;
         Ok(())
     }
 
     fn load(&self, segment: u16, slot: u16) -> u32 {
-        if !self.kept {
-            return 0;
-        }
-        let Some((_, _, slots, _)) = self.segment(segment) else {
-            return 0;
-        };
-        load_of(self.row(segment), slot, slots)
+        rows::load(self, segment, slot)
     }
 
     fn admissible_held_back(&self, leg: Leg, held: u8) -> bool {
-        if !self.kept {
-            return false;
-        }
-        let Some((_, _, slots, count)) = self.segment(leg.segment) else {
-            return false;
-        };
-        let limit = count.saturating_sub(held);
-        first_entry(self.row(leg.segment), leg.entry, leg.entry, slots, limit).is_some()
+        rows::admissible_held_back(self, leg, held)
     }
 
     fn next_entry_held_back(&self, segment: u16, from: u16, held: u8) -> Option<u16> {
-        if !self.kept {
-            return None;
-        }
-        let Some((_, _, slots, count)) = self.segment(segment) else {
-            return None;
-        };
-        let last = self.plan.sizes().horizon.saturating_sub(slots as u16);
-        let limit = count.saturating_sub(held);
-        first_entry(self.row(segment), from, last, slots, limit)
+        rows::next_entry_held_back(self, segment, from, held)
     }
 }

@@ -40,23 +40,14 @@ impl RowBook {
     fn load(&self, slot: u16) -> u32
         ensures { result ≡ load_in (row_of self.now) 0 slot }
     {
-        let mut load = 0u32;
-        for start in 0..20u16 {
-            load += self.held_by(start, slot);
-        }
-        load
+        (0..20u16).map(|start| self.held_by(start, slot)).sum()
     }
 
     fn has_room(&self, leg: Leg) -> bool
         requires { (leg.segment ≡ 0) × (leg.entry ≤ 20) }
         ensures { result ≡ room_below (row_of self.now) leg self.now.limit self.now.slots }
     {
-        for k in 0..self.slots as u16 {
-            if self.load(leg.entry + k) >= self.limit as u32 {
-                return false;
-            }
-        }
-        true
+        (leg.entry..leg.entry + self.slots as u16).all(|slot| self.load(slot) < self.limit as u32)
     }
 }
 
@@ -107,9 +98,7 @@ impl Book for RowBook {
         if self.count >= 1024 {
             return Err(Refusal::LegsFull);
         }
-        let entry = leg.entry as usize;
-        let standing = self.row[entry];
-        self.row[entry] = standing + 1;
+        self.row[leg.entry as usize] += 1;
         self.count += 1;
         Ok(())
     }
@@ -118,9 +107,7 @@ impl Book for RowBook {
         if self.standing(leg) == 0 {
             return Err(Refusal::LegNotStanding);
         }
-        let entry = leg.entry as usize;
-        let standing = self.row[entry];
-        self.row[entry] = standing - 1;
+        self.row[leg.entry as usize] -= 1;
         self.count -= 1;
         Ok(())
     }

@@ -6,6 +6,7 @@ ghost use Rattle.plan.specs.Content.{content};
 ghost use Rattle.layers.specs.Closures.{ClosedUntil, kept_closures};
 
 use super::ClosureLayer;
+use arrayvec::ArrayVec;
 use book::{Book, Leg, Sizes};
 use plan::{Closure, Plan, Refusal};
 
@@ -26,28 +27,14 @@ fn closes(closure: Closure, leg: Leg, slots: u8) -> bool
     closure.segment == leg.segment && covers_some(closure, leg.entry, slots)
 }
 
-fn closed_by_some(closures: &[Closure], leg: Leg, slots: u8) -> bool
-    ensures { result ≡ closed_by closures.now leg.segment slots leg.entry }
-{
-    for closure in closures {
-        if closes(*closure, leg, slots) {
-            return true;
-        }
-    }
-    false
-}
-
 // Where a closure bars the leg, a later slot before which no entry is open.
 fn closed_until(closures: &[Closure], leg: Leg, slots: u8) -> Option<u16>
-    requires { 1 ≤ slots }
     ensures { ClosedUntil (closed_by closures.now leg.segment slots) leg.entry result }
 {
-    for closure in closures {
-        if closes(*closure, leg, slots) {
-            return Some(closure.end);
-        }
-    }
-    None
+    closures
+        .iter()
+        .find(|closure| closes(**closure, leg, slots))
+        .map(|closure| closure.end)
 }
 
 impl<B: Book> ClosureLayer<B> {
@@ -56,35 +43,15 @@ impl<B: Book> ClosureLayer<B> {
         ensures below { result.below ≡ below }
         ensures closures { kept_closures result ≡ (content plan.now).closures }
     {
-        let none = Closure {
-            segment: 0,
-            first: 0,
-            end: 0,
-        };
-        let mut closures = [none; 16];
-        let count = plan.closure_count() as usize;
-        closures[0..count].copy_from_slice(plan.closures());
-        ClosureLayer {
-            below,
-            closures,
-            count,
+        let mut closures = ArrayVec::new();
+        for closure in plan.closures() {
+            closures.push(*closure);
         }
+        ClosureLayer { below, closures }
     }
 }
 
 impl<B: Book> ClosureLayer<B> {
-    // Whether a closure bars the leg; one of a segment that is unknown below bars nothing.
-    fn bars_leg(&self, leg: Leg) -> bool
-        ensures { result ≡ closing (kept_closures self.now)
-            (B.Book.meaning self.now.below).shown leg.segment leg.entry }
-    {
-        let Some((_, _, slots, _)) = self.below.segment(leg.segment) else {
-            return false;
-        };
-        let count = self.count.min(16);
-        closed_by_some(&self.closures[0..count], leg, slots)
-    }
-
     // Where a closure bars the leg, a later slot before which no entry is open. A closure of a segment that is unknown
     // below bars nothing.
     fn barred_until(&self, leg: Leg) -> Option<u16>
@@ -92,8 +59,7 @@ impl<B: Book> ClosureLayer<B> {
             (B.Book.meaning self.now.below).shown leg.segment) leg.entry result }
     {
         let (_, _, slots, _) = self.below.segment(leg.segment)?;
-        let count = self.count.min(16);
-        closed_until(&self.closures[0..count], leg, slots)
+        closed_until(&self.closures, leg, slots)
     }
 }
 
@@ -119,7 +85,7 @@ impl<B: Book> Book for ClosureLayer<B> {
     }
 
     fn admissible(&self, leg: Leg) -> bool {
-        self.below.admissible(leg) && !self.bars_leg(leg)
+        self.below.admissible(leg) && self.barred_until(leg).is_none()
     }
 
     fn reserve(&mut self, leg: Leg) -> Result<(), Refusal> {

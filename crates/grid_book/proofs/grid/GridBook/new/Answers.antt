@@ -1,60 +1,46 @@
-use Rattle.std.proofs.Common.{true, false, drop, sym, refl, ap, ◌∙◌, arith}
-use Rattle.std.proofs.lemmas.Bool.{false≢true, le-ltb, lt-ltb}
+use Rattle.std.proofs.Common.{◌≡◌, ℕ, ◌<◌, true, not, ltb, length, get_or, sym, ap, ◌∙◌, arith}
+use Rattle.std.proofs.lemmas.Bool.{leb-true}
+use Rattle.std.proofs.lemmas.Bool.Decides.{nat_tests}
 use Rattle.book.specs.Bottom.{no_legs}
 use Rattle.book.specs.ShownPlan.{shown_of}
-use Rattle.grid_book.specs.Grid.{bytes_of}
-use Rattle.grid_book.proofs.Cells.{counts_none, grid_none}
+use Rattle.grid_book.specs.Grid.{bytes_of, suffices}
+use Rattle.grid_book.proofs.Cells.{counts_none, filled, grid_none}
 use Rattle.grid_book.proofs.grid.GridBook.new.Goals as goal
+use Rattle.grid_book.proofs.grid.GridBook.new.Goals.{then-bytes-memory, else-bytes-memory}
 
 pub invariant_of-result : goal.invariant_of-result
 invariant_of-result c =
-    let s = shown_of c.new-shown.result in
-    record {
-      room = λ kept. absurd (false≢true kept);
-      counted = sym (counts_none s false c.args.memory.now (λ kept. absurd (false≢true kept)));
-      few = omega arith;
-    }
-
-pub returns-then-memory-bytes : goal.returns-then-memory-bytes
-returns-then-memory-bytes c =
-    let s = shown_of c.new-shown.result in
-    record {
-      meaning =
-          grid_none s false c.args.memory.now (λ kept. absurd (false≢true kept))
-          ∙ ap (λ x. no_legs x true) c.new-shown.ensures
-          ∙ ap (no_legs _) (sym (lt-ltb _ _ (omega (arith, c.grid_bytes-bytes.ensures, c.if-memory-bytes.true))));
-      too_little = λ _. refl;
-      rest = refl;
-      lent = refl;
-    }
-
-pub invariant_of-result-2 : goal.invariant_of-result-2
-invariant_of-result-2 c =
-    let s = shown_of c.new-shown.result in
+    let s = shown_of c.new.result in
+    let memory = c.if-bytes-memory.memory in
     let bytes = c.grid_bytes-bytes.ensures in
-    let same = ap bytes_of c.new-shown.ensures in
-    record {
-      room = λ _. omega (arith, same, bytes);
-      counted = sym (counts_none s true c.clear.new.cells
-          (λ _ k below. c.clear.ensures.cleared k (omega (arith, same, bytes, below))));
-      few = omega arith;
-    }
+    let same = ap bytes_of c.new.ensures in
+    let cleared : suffices s memory ≡ true → (k : ℕ) → k < bytes_of s → get_or memory k 0 ≡ 0 =
+    elim c.if-bytes-memory.branch [
+      | then-bytes-memory w ↦ λ _ k below.
+          filled _ _ _ _ (w.fill.ensures.after (λ y is. is)) w.memory-is w.if-bytes-memory.true k
+          (omega (arith, bytes, same, below))
+      | else-bytes-memory w ↦ λ enough.
+          let suffice = leb-true (bytes_of s) (length memory) enough in
+          absurd (omega (arith, suffice, ap length w.memory-is, w.if-bytes-memory.false, bytes, same))
+    ] in
+    record { counted = sym (counts_none s memory cleared); few = omega arith }
 
-pub returns : goal.returns
-returns c =
-    let s = shown_of c.new-shown.result in
+pub returns-clause-meaning : goal.returns-clause-meaning
+returns-clause-meaning c =
+    let s = shown_of c.new.result in
+    let memory = c.if-bytes-memory.memory in
     let bytes = c.grid_bytes-bytes.ensures in
-    let same = ap bytes_of c.new-shown.ensures in
-    record {
-      meaning =
-          grid_none s true c.clear.new.cells
-          (λ _ k below. c.clear.ensures.cleared k (omega (arith, same, bytes, below)))
-          ∙ ap (λ x. no_legs x false) c.new-shown.ensures
-          ∙ ap (no_legs _) (sym (le-ltb _ _ (omega (arith, bytes, c.if-memory-bytes.false))));
-      too_little = λ short. absurd (omega (arith, bytes, c.if-memory-bytes.false, short));
-      rest =
-          ap (λ n. drop n c.clear.new.cells) (sym bytes)
-          ∙ c.clear.ensures.rest
-          ∙ ap (λ n. drop n c.args.memory.now) bytes;
-      lent = refl;
-    }
+    let same = ap bytes_of c.new.ensures in
+    let long = c.if-bytes-memory.auto.memory in
+    let cleared : suffices s memory ≡ true → (k : ℕ) → k < bytes_of s → get_or memory k 0 ≡ 0 =
+    elim c.if-bytes-memory.branch [
+      | then-bytes-memory w ↦ λ _ k below.
+          filled _ _ _ _ (w.fill.ensures.after (λ y is. is)) w.memory-is w.if-bytes-memory.true k
+          (omega (arith, bytes, same, below))
+      | else-bytes-memory w ↦ λ enough.
+          let suffice = leb-true (bytes_of s) (length memory) enough in
+          absurd (omega (arith, suffice, long, w.if-bytes-memory.false, bytes, same))
+    ] in
+    let short : not (suffices s memory) ≡ ltb (length c.args.memory.now) (bytes_of s) = grind (arith, nat_tests, long) in
+    grid_none s memory cleared ∙ ap (no_legs s) short
+    ∙ ap (λ x. no_legs x (ltb (length c.args.memory.now) (bytes_of x))) c.new.ensures

@@ -1,4 +1,4 @@
-use Rattle.std.proofs.Common.{◌≡◌, ℕ, ◌-◌, min, take, sym, ap, ◌∙◌, subst, ap₂, arith}
+use Rattle.std.proofs.Common.{ℕ, sym, ap, ◌∙◌, subst, ap₂}
 use mathlib.Core.Path.{fun_ext}
 use Rattle.book.specs.Layered.{closed_by, closing}
 use Rattle.book.proofs.Layering.{closing_known, closing_unknown}
@@ -15,16 +15,6 @@ returns-in_err-slots g c =
     subst (ClosedUntil (closing (kept_closures layer) m.shown i) c.args.leg.entry) (sym c.from_residual.ensures)
     (closing_unknown (kept_closures layer) m i c.args.leg.entry past)
 
-pub closed_until-requires : goal.closed_until-requires
-closed_until-requires g c =
-    let below = c.args.self.now.below in
-    let m = g.B.Book.meaning below in
-    let i = c.args.leg.segment in
-    let found = segment_some m i _ c.in_ok-slots.ensures in
-    let slots = ap (λ (q : ℕ × ℕ × ℕ × ℕ). q.2) found.1 in
-    let takes = ((g.B.Book.sound below).plan_fits.roads_fit i found.0).takes_a_slot in
-    omega (arith, slots, takes)
-
 pub returns : goal.returns
 returns g c =
     let layer = c.args.self.now in
@@ -32,9 +22,6 @@ returns g c =
     let i = c.args.leg.segment in
     let found = segment_some m i _ c.in_ok-slots.ensures in
     let slots = ap (λ (q : ℕ × ℕ × ℕ × ℕ). q.2) found.1 in
-    let kept : take (c.min-count.result - 0) layer.closures ≡ kept_closures layer =
-    ap (λ n. take n layer.closures)
-    (let same : c.min-count.result - 0 ≡ min layer.count 16 = omega (arith, c.min-count.ensures) in same) in
-    let bars = ap₂ (λ ks u. closed_by ks i u) kept slots
+    let bars = ap₂ (λ ks u. closed_by ks i u) c.deref.ensures.0 slots
     ∙ sym (fun_ext (λ e. closing_known (kept_closures layer) m i e found.0)) in
     subst (λ shut. ClosedUntil shut c.args.leg.entry c.closed_until.result) bars c.closed_until.ensures

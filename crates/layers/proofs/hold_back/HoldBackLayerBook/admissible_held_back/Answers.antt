@@ -10,4 +10,4 @@ returns g c =
     let both = c.saturating_add-held.ensures in
     c.admissible_held_back.ensures
     ∙ ap (λ x. admissible x c.args.leg)
-    (sym (held_twice layer.held c.args.held _ m (g.B.Book.sound layer.below) both))
+    (sym (held_twice layer.held c.args.held _ m (g.met.B.Book.sound layer.below) both))

@@ -9,5 +9,5 @@ returns g c =
     let m = g.B.Book.meaning layer.below in
     let both = c.saturating_add-held.ensures in
     subst (λ x. NextEntry x c.args.segment c.args.from c.next_entry_held_back.result)
-    (sym (held_twice layer.held c.args.held _ m (g.B.Book.sound layer.below) both))
+    (sym (held_twice layer.held c.args.held _ m (g.met.B.Book.sound layer.below) both))
     c.next_entry_held_back.ensures

@@ -8,8 +8,8 @@ use Rattle.book.proofs.Reserving.{cond_under, reserved_over}
 use Rattle.book.proofs.Rooming.{admissible_held}
 use Rattle.layers.proofs.hold_back.HoldBackLayerBook.reserve.Goals as goal
 
-pub returns : goal.returns
-returns g c =
+pub returns-clause-does : goal.returns-clause-does
+returns-clause-does g c =
     let layer = c.args.self.now in
     let m = g.B.Book.meaning layer.below in
     let after = g.B.Book.meaning c.reserve.new.self in
@@ -21,9 +21,5 @@ returns g c =
     (sym (admissible_held layer.held m l) ∙ admitted)).0 in
     let change = ap (held_back layer.held) c.reserve.ensures.does.change
     ∙ cond_under (held_back layer.held) (is_ok r) (plus m l) m in
-    record {
-      does =
-          reserved_over m after (held_back layer.held m) (held_back layer.held after) l r c.reserve.ensures.does
-          admitted below (total_held layer.held m) change;
-      refused = λ no'. ap (λ b. record { below = b; held = layer.held }) (c.reserve.ensures.refused no');
-    }
+    reserved_over m after (held_back layer.held m) (held_back layer.held after) l r c.reserve.ensures.does
+    admitted below (total_held layer.held m) change

@@ -1,64 +1,56 @@
-use Rattle.std.proofs.Common.{◌<◌, true, false, length, sym, refl, ap, ◌∙◌, arith}
-use Rattle.std.proofs.lemmas.Bool.{false≢true, le-ltb, leb-false, leb-true, lt-ltb}
+use Rattle.std.proofs.Common.{◌≡◌, ◌≤◌, not, ltb, drop, length, replicate, sym, ap, ◌∙◌, arith}
+use Rattle.std.proofs.lemmas.Bool.{leb-false, leb-true}
+use Rattle.std.proofs.lemmas.Bool.Decides.{nat_tests}
 use Rattle.plan.specs.Limits.{most_legs}
 use Rattle.book.specs.Bottom.{no_legs}
 use Rattle.book.specs.ShownPlan.{shown_of}
-use Rattle.leg_book.proofs.Stores.{counts_none, legs_none, no_leg_at, part_cleared}
+use Rattle.leg_book.specs.Records.{in_plan, no_record, part_used, suffices}
+use Rattle.leg_book.proofs.Stores.{all_unused, counts_none, filled, legs_none, no_leg_at}
 use Rattle.leg_book.proofs.legs.LegBook.new.Goals as goal
+use Rattle.leg_book.proofs.legs.LegBook.new.Goals.{then-memory_suffices, else-memory_suffices}
 
 pub invariant_of-result : goal.invariant_of-result
 invariant_of-result c =
-    let s = shown_of c.new-shown.result in
-    let none = counts_none s false c.args.memory.now (λ kept. absurd (false≢true kept)) in
+    let s = shown_of c.new.result in
+    let memory = c.if-memory_suffices.memory in
+    let long = c.if-memory_suffices.auto.memory in
+    let cleared : most_legs ≤ length memory → part_used memory ≡ replicate most_legs no_record =
+    elim c.if-memory_suffices.branch [
+      | then-memory_suffices w ↦ λ _.
+          (filled _ _ _ (leb-true _ _ (sym w.if-memory_suffices.ensures))
+          (w.fill.ensures.after (λ y is. is) ∙ ap (replicate _) w.unused.ensures) w.memory-is).0
+      | else-memory_suffices w ↦ λ enough.
+          let short = leb-false _ _ (sym w.if-memory_suffices.ensures) in absurd (omega (arith, long, enough, short))
+    ] in
     record {
-      room = λ kept. absurd (false≢true kept);
-      legal = λ kept. absurd (false≢true kept);
-      small = λ kept. absurd (false≢true kept);
-      counted = sym none;
+      legal = λ enough k. ap (in_plan s) (all_unused s memory cleared enough k);
+      small = λ enough i e. omega (arith, no_leg_at s memory cleared enough i e);
+      counted = sym (counts_none s memory cleared);
       few = omega arith;
     }
 
-pub returns-then-not-memory_suffices : goal.returns-then-not-memory_suffices
-returns-then-not-memory_suffices c =
-    let s = shown_of c.new-shown.result in
-    let memory = c.args.memory.now in
-    let short : length memory < most_legs =
-    leb-false most_legs (length memory) (sym c.if-not-memory_suffices.ensures) in
-    record {
-      meaning =
-          legs_none s false memory (λ kept. absurd (false≢true kept))
-          ∙ ap (λ x. no_legs x true) c.new-shown.ensures
-          ∙ ap (no_legs _) (sym (lt-ltb (length memory) most_legs short));
-      too_little = λ _. refl;
-      rest = refl;
-      lent = refl;
-    }
+pub returns-clause-meaning : goal.returns-clause-meaning
+returns-clause-meaning c =
+    let s = shown_of c.new.result in
+    let memory = c.if-memory_suffices.memory in
+    let long = c.if-memory_suffices.auto.memory in
+    let cleared : most_legs ≤ length memory → part_used memory ≡ replicate most_legs no_record =
+    elim c.if-memory_suffices.branch [
+      | then-memory_suffices w ↦ λ _.
+          (filled _ _ _ (leb-true _ _ (sym w.if-memory_suffices.ensures))
+          (w.fill.ensures.after (λ y is. is) ∙ ap (replicate _) w.unused.ensures) w.memory-is).0
+      | else-memory_suffices w ↦ λ enough.
+          let short = leb-false _ _ (sym w.if-memory_suffices.ensures) in absurd (omega (arith, long, enough, short))
+    ] in
+    let short : not (suffices memory) ≡ ltb (length c.args.memory.now) most_legs = grind (arith, nat_tests, long) in
+    legs_none s memory cleared ∙ ap (no_legs s) short
+    ∙ ap (λ x. no_legs x (ltb (length c.args.memory.now) most_legs)) c.new.ensures
 
-pub invariant_of-result-2 : goal.invariant_of-result-2
-invariant_of-result-2 c =
-    let s = shown_of c.new-shown.result in
-    let memory = c.clear.new.records in
-    let enough = leb-true most_legs (length c.args.memory.now) (sym c.if-not-memory_suffices.ensures) in
-    record {
-      room = λ _. omega (arith, enough);
-      legal = λ kept k used.
-          absurd (false≢true (sym (part_cleared s true memory (λ _. c.clear.ensures.cleared) kept k) ∙ used));
-      small = λ kept i e. omega (arith, no_leg_at s true memory (λ _. c.clear.ensures.cleared) kept i e);
-      counted = sym (counts_none s true memory (λ _. c.clear.ensures.cleared));
-      few = omega arith;
-    }
-
-pub returns : goal.returns
-returns c =
-    let s = shown_of c.new-shown.result in
-    let memory = c.clear.new.records in
-    let enough = leb-true most_legs (length c.args.memory.now) (sym c.if-not-memory_suffices.ensures) in
-    record {
-      meaning =
-          legs_none s true memory (λ _. c.clear.ensures.cleared)
-          ∙ ap (λ x. no_legs x false) c.new-shown.ensures
-          ∙ ap (no_legs _) (sym (le-ltb (length c.args.memory.now) most_legs enough));
-      too_little = λ short. absurd (omega (arith, enough, short));
-      rest = c.clear.ensures.rest;
-      lent = refl;
-    }
+pub returns-clause-rest : goal.returns-clause-rest
+returns-clause-rest c =
+    elim c.if-memory_suffices.branch [
+      | then-memory_suffices w ↦
+          (filled _ _ _ (leb-true _ _ (sym w.if-memory_suffices.ensures))
+          (w.fill.ensures.after (λ y is. is) ∙ ap (replicate _) w.unused.ensures) w.memory-is).1
+      | else-memory_suffices w ↦ ap (drop most_legs) w.memory-is
+    ]

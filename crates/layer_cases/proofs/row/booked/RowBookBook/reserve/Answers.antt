@@ -7,8 +7,8 @@ use Rattle.layer_cases.specs.RowBook.{row_of}
 use Rattle.layer_cases.proofs.Rows.{admitted_inside, at_most_all, set_more}
 use Rattle.layer_cases.proofs.row.booked.RowBookBook.reserve.Goals as goal
 
-pub bounds-self-entry : goal.bounds-self-entry
-bounds-self-entry c =
+pub bounds-self-leg : goal.bounds-self-leg
+bounds-self-leg c =
     let b = c.args.self.now in
     (admitted_inside b.slots b.limit b.row c.args.leg b.takes (sym c.if-not-admissible.ensures)).1
 
@@ -21,8 +21,8 @@ overflow_add-self c =
     let all = b.counted in
     record { fits = omega arith }
 
-pub bounds-self-entry-2 : goal.bounds-self-entry-2
-bounds-self-entry-2 c =
+pub bounds-self-leg-2 : goal.bounds-self-leg-2
+bounds-self-leg-2 c =
     let b = c.args.self.now in
     (admitted_inside b.slots b.limit b.row c.args.leg b.takes (sym c.if-not-admissible.ensures)).1
 

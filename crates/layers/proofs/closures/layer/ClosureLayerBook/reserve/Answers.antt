@@ -8,8 +8,8 @@ use Rattle.book.proofs.Reserving.{cond_under, reserved_over}
 use Rattle.layers.specs.Closures.{kept_closures}
 use Rattle.layers.proofs.closures.layer.ClosureLayerBook.reserve.Goals as goal
 
-pub returns : goal.returns
-returns g c =
+pub returns-clause-does : goal.returns-clause-does
+returns-clause-does g c =
     let layer = c.args.self.now in
     let ks = kept_closures layer in
     let m = g.B.Book.meaning layer.below in
@@ -21,10 +21,5 @@ returns g c =
     (and_parts (admissible m l) (not (closing ks m.shown l.segment l.entry))
     (sym (admissible_closed ks m l) ∙ admitted)).0 in
     let change = ap (closed ks) c.reserve.ensures.does.change ∙ cond_under (closed ks) (is_ok r) (plus m l) m in
-    record {
-      does =
-          reserved_over m after (closed ks m) (closed ks after) l r c.reserve.ensures.does admitted below
-          (total_closed ks m) change;
-      refused = λ no'.
-          ap (λ b. record { below = b; closures = layer.closures; count = layer.count }) (c.reserve.ensures.refused no');
-    }
+    reserved_over m after (closed ks m) (closed ks after) l r c.reserve.ensures.does admitted below
+    (total_closed ks m) change

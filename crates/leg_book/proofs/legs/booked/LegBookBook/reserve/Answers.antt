@@ -1,42 +1,27 @@
-use Rattle.std.proofs.Common.{◌<◌, sym, arith, length-set}
-use Rattle.std.proofs.lemmas.List.{length-take}
-use Rattle.std.proofs.lemmas.Bool.{true≢false}
+use Rattle.std.proofs.Common.{◌≡◌, ℕ, ◌<◌, ◌≤◌, false, ltb, ◌≢◌, None, length, get_or, sym, arith, length-set, rules}
+use Rattle.std.proofs.lemmas.Bool.{le-ltb, leb-true}
 use Rattle.plan.specs.Limits.{most_count, most_legs}
 use Rattle.book.proofs.Bottoms.{bottom_at, shown_fits}
 use Rattle.book.proofs.Calling.{admitted_kept, few_stand, reserves_ok}
+use Rattle.book.specs.Meaning.{total}
 use Rattle.book.specs.ShownPlan.{shown_of}
 use Rattle.leg_book.specs.LegBook.{legs_of}
-use Rattle.leg_book.specs.Records.{count_at, part_used, record_of}
-use Rattle.leg_book.proofs.Collecting.{total_used}
-use Rattle.leg_book.proofs.Stores.{counts_more, leg_legal, one_more, part_length, stays_legal, stays_small_more}
+use Rattle.leg_book.specs.Records.{count_at, no_record, part_used, record_of, suffices}
+use Rattle.leg_book.proofs.Stores.{counts_more, full, kept_in_plan, means_more, more_by_one, not_full, stays_legal, stays_small}
 use Rattle.leg_book.proofs.legs.booked.LegBookBook.reserve.Goals as goal
 
-pub unused_place-requires : goal.unused_place-requires
-unused_place-requires c =
+pub returns-in_err-place-clause-does : goal.returns-in_err-place-clause-does
+returns-in_err-place-clause-does c =
     let b = c.args.self.now in
     let s = shown_of b.plan in
-    (admitted_kept s b.kept (count_at (part_used b.records.now)) c.args.leg (shown_fits b.plan)
-    (sym c.if-not-admissible.ensures)).keeps
-
-pub returns-in_default : goal.returns-in_default
-returns-in_default c =
-    let b = c.args.self.now in
-    let s = shown_of b.plan in
-    let kept = (admitted_kept s b.kept (count_at (part_used b.records.now)) c.args.leg (shown_fits b.plan)
-    (sym c.if-not-admissible.ensures)).keeps in
-    let full = c.in_default.ensures in
-    let all = total_used s b.kept (part_used b.records.now) kept (b.legal kept) in
-    absurd (omega (arith, full, all, b.counted, part_length b.records.now (b.room kept)))
-
-pub offset_bounds-self-place : goal.offset_bounds-self-place
-offset_bounds-self-place c =
-    let b = c.args.self.now in
-    record { fits = omega (arith, c.in-Some.ensures.0, length-take most_legs b.records.now) }
-
-pub bounds-self-place : goal.bounds-self-place
-bounds-self-place c =
-    let b = c.args.self.now in
-    omega (arith, c.in-Some.ensures.0, length-take most_legs b.records.now)
+    let at = admitted_kept s (suffices b.records.now) (count_at (part_used b.records.now)) c.args.leg (shown_fits b.plan)
+    (sym c.if-not-admissible.ensures) in
+    let enough = leb-true most_legs (length b.records.now) at.keeps in
+    let none : most_legs ≤ length b.records.now → (k : ℕ) → k < most_legs
+    → (get_or (part_used b.records.now) k no_record).leg ≢ None = search rules in
+    let all = full s b.records.now enough (b.legal enough) (none enough) in
+    let no_room : ltb (total (legs_of b)) most_legs ≡ false = le-ltb _ _ (omega (arith, all)) in
+    search rules
 
 pub invariant_of-self : goal.invariant_of-self
 invariant_of-self c =
@@ -44,41 +29,42 @@ invariant_of-self c =
     let s = shown_of b.plan in
     let l = c.args.leg in
     let memory = b.records.now in
-    let k = c.in-Some.place in
-    let within = c.in-Some.ensures.0 in
-    let unused = c.in-Some.ensures.1 in
+    let k = c.in_ok-place.place in
+    let below : k < most_legs = search rules in
+    let enough : most_legs ≤ length memory = search rules in
+    let unused : (get_or (part_used memory) k no_record).leg ≡ None = search rules in
     let admitted = sym c.if-not-admissible.ensures in
-    let at = admitted_kept s b.kept (count_at (part_used memory)) l (shown_fits b.plan) admitted in
+    let at = admitted_kept s (suffices memory) (count_at (part_used memory)) l (shown_fits b.plan) admitted in
     let few : count_at (part_used memory) l.segment l.entry < most_count =
     omega (
       arith,
       few_stand (legs_of b) l (shown_fits b.plan) admitted,
-      bottom_at s b.kept (count_at (part_used memory)) l.segment l.entry at,
+      bottom_at s (suffices memory) (count_at (part_used memory)) l.segment l.entry at,
     ) in
-    let more = counts_more s b.kept memory k within l unused at in
+    let more = counts_more s memory _ l (length-set memory k (record_of l)) (more_by_one s memory enough k below l unused) at in
+    let room = not_full s memory enough k below unused (b.legal enough) in
+    let counted = b.counted in
     record {
-      room = λ kept. omega (arith, b.room kept, length-set memory k (record_of l));
-      legal = λ kept. stays_legal s b.kept memory k within (record_of l)
-          (λ _. leg_legal s b.kept memory k within l unused at) (b.legal kept);
-      small = λ kept. stays_small_more s b.kept memory k within l unused few (b.small kept);
-      counted = omega (arith, more, b.counted);
-      few = omega arith;
+      legal = λ _. stays_legal s memory enough k below (record_of l) (kept_in_plan s memory l at) (b.legal enough);
+      small = λ _. stays_small s memory enough k below l unused few (b.small enough);
+      counted = omega (arith, more, counted);
+      few = omega (arith, room, counted);
     }
 
-pub returns : goal.returns
-returns c =
+pub returns-clause-does : goal.returns-clause-does
+returns-clause-does c =
     let b = c.args.self.now in
     let s = shown_of b.plan in
     let l = c.args.leg in
     let memory = b.records.now in
-    let within = c.in-Some.ensures.0 in
-    let unused = c.in-Some.ensures.1 in
+    let k = c.in_ok-place.place in
+    let below : k < most_legs = search rules in
+    let enough : most_legs ≤ length memory = search rules in
+    let unused : (get_or (part_used memory) k no_record).leg ≡ None = search rules in
     let admitted = sym c.if-not-admissible.ensures in
-    let at = admitted_kept s b.kept (count_at (part_used memory)) l (shown_fits b.plan) admitted in
+    let at = admitted_kept s (suffices memory) (count_at (part_used memory)) l (shown_fits b.plan) admitted in
     record {
-      does = record {
-        answer = reserves_ok (legs_of b) l admitted (omega (arith, b.counted));
-        change = one_more s b.kept memory c.in-Some.place within l unused at;
-      };
-      refused = λ not_ok. absurd (true≢false not_ok);
+      answer = reserves_ok (legs_of b) l admitted (not_full s memory enough k below unused (b.legal enough));
+      change = means_more s memory _ l (length-set memory k (record_of l))
+          (more_by_one s memory enough k below l unused) at;
     }
