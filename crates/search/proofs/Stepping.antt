@@ -1,17 +1,22 @@
 -- A step back over a segment, by its numbers as they are shown.
-use Rattle.std.proofs.Common.{◌≡◌, ℕ, ◌+◌, ◌-◌, ◌<◌, ◌≤◌, true, false, ◌≢◌, List, sym, ap, ◌∙◌, subst, subst₂, ⊎_elim, arith}
-use Rattle.std.proofs.lemmas.Bool.{both_ways, cases_eq}
+use Rattle.std.proofs.Common.{◌≡◌, ℕ, ◌+◌, ◌-◌, ◌<◌, ◌≤◌, Bool, true, false, ◌≢◌, List, Some, None, Option, refl, sym, ap, ◌∙◌, subst, subst₂, arith}
+use Rattle.std.proofs.lemmas.Bool.{both_ways}
+use Rattle.std.specs.Bool.{then_some}
+use Rattle.std.specs.Option.{IsSome}
 use Rattle.book.specs.Loads.{admissible}
-use Rattle.book.specs.Meaning.{Meaning, segments}
-use Rattle.walks.specs.Labels.{at}
+use Rattle.book.specs.Meaning.{Meaning, Sound, segments}
+use Rattle.walks.specs.Labels.{at, far}
 use Rattle.walks.specs.Tables.{TableInto, TableLast}
 use Rattle.walks.specs.Walks.{from, leg, slots as slots_of}
-use Rattle.search.specs.Steps.{IsStep}
+use Rattle.search.specs.Steps.{IsStep, StepBack, StepOver}
 use Rattle.search.specs.declared.tracing.Step.{Step}
-use Rattle.search.proofs.Showing.{Shows}
+use Rattle.search.proofs.Showing.{Shows, ends_early}
 
 pub not_into_unknown : (m : Meaning) (best : List ℕ) (v i : ℕ) → segments m ≤ i → TableInto m best v i → ⊥
 not_into_unknown m best v i past into = let known = into.known in omega arith
+
+pub not_into_unreached : {m : Meaning} → Sound m → (best : List ℕ) (v i : ℕ) → at best v ≡ far → TableInto m best v i → ⊥
+not_into_unreached sound best v i away into = let early = ends_early sound i _ into.fits in omega (arith, early, away)
 
 module _ {m : Meaning} {i start end slots : ℕ} (shown : Shows m i start end slots) (best : List ℕ) (v : ℕ) where
   pub not_into_other : end ≢ v → TableInto m best v i → ⊥
@@ -47,6 +52,11 @@ module _ {m : Meaning} {i start end slots : ℕ} (shown : Shows m i start end sl
           starts = shown.start_is;
         }
 
+    pub step_if_fits : (fits : Bool) → fits ≡ admissible m (leg i e) → end ≡ v → at best start + slots ≤ at best v
+        → StepOver m best v i (then_some fits (record { leg = leg i e; start = start }))
+    step_if_fits true same ends reaches = shown_step ends reaches (sym same)
+    step_if_fits false same ends reaches = not_into_barred (sym same)
+
 module _ (m : Meaning) (best : List ℕ) (v : ℕ) where
   -- the first segment over which there is a step
   pub step_is_last : (i : ℕ) (s : Step) → IsStep m best v i s → ((j : ℕ) → j < i → TableInto m best v j → ⊥)
@@ -60,8 +70,8 @@ module _ (m : Meaning) (best : List ℕ) (v : ℕ) where
         starts = step.starts ∙ ap (λ k. from m k) (sym segment);
       }
 
-  -- one more segment over which there is none
-  pub none_lower : (i : ℕ) → ((j : ℕ) → j < i → TableInto m best v j → ⊥) → (TableInto m best v i → ⊥)
-      → (j : ℕ) → j < i + 1 → TableInto m best v j → ⊥
-  none_lower i lower none j below into =
-      ⊎_elim (λ same. none (subst (TableInto m best v) same into)) (λ apart. lower j (omega arith) into) (cases_eq j i)
+  -- where some last segment is found there is a step
+  pub some_step : (r : Option Step) → StepBack m best v r → (((j : ℕ) → j < segments m → TableInto m best v j → ⊥) → ⊥)
+      → IsSome r
+  some_step None none found = absurd (found none)
+  some_step (Some s) step found = refl

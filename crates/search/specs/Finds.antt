@@ -5,7 +5,7 @@ use Rattle.plan.specs.declared.refusals.Refusal.TheVariants as refusal
 use Rattle.book.specs.Meaning.{Meaning}
 use Rattle.book.specs.declared.legs.Leg.{Leg}
 use Rattle.walks.specs.Walks.{Chosen, SomeWalk, Walk}
-use Rattle.walks.specs.declared.labels.Label.{Label}
+use Rattle.queue_client.specs.declared.label.Label.{Label}
 use Rattle.walks.specs.declared.requests.Request.{Request}
 use Rattle.search.specs.Requests.{checks}
 use Rattle.search.specs.Routes.{legs_of}

@@ -1,4 +1,5 @@
 pub mod Requests
 pub mod Routes
+pub mod Arrivals
 pub mod Steps
 pub mod Finds

@@ -1,8 +1,8 @@
 -- Steps back from a junction, by a table of the earliest slots.
-use Rattle.std.specs.Prelude.{◌≡◌, ℕ, ◌-◌, List, Some, None, Option}
-use Rattle.book.specs.Meaning.{Meaning}
+use Rattle.std.specs.Prelude.{◌≡◌, ℕ, ◌-◌, ◌<◌, List, Some, None, Option, MatchOption}
+use Rattle.book.specs.Meaning.{Meaning, segments}
 use Rattle.walks.specs.Labels.{at}
-use Rattle.walks.specs.Tables.{TableInto, TableLast}
+use Rattle.walks.specs.Tables.{TableInto}
 use Rattle.walks.specs.Walks.{from, leg, slots}
 use Rattle.search.specs.declared.tracing.Step.{Step}
 
@@ -16,7 +16,8 @@ abbrev pub StepOver : Meaning → List ℕ → ℕ → ℕ → Option Step → T
 StepOver m best v i (Some s) = IsStep m best v i s
 StepOver m best v i None = TableInto m best v i → ⊥
 
--- the step by the tie rule
+-- the step by the tie rule: over the first segment over which there is one
 abbrev pub StepBack : Meaning → List ℕ → ℕ → Option Step → Type 0
-StepBack m best v (Some s) = TableLast m best v s.leg s.start
-StepBack m best v None = (j : ℕ) → TableInto m best v j → ⊥
+StepBack m best v r =
+    MatchOption r ((j : ℕ) → j < segments m → TableInto m best v j → ⊥)
+    (λ s. (i : ℕ) × IsStep m best v i s × ((j : ℕ) → j < i → TableInto m best v j → ⊥))

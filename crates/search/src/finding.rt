@@ -2,10 +2,9 @@
 ghost use Rattle.std.specs.Prelude.{length, Err};
 ghost use Rattle.search.specs.Finds.{Finds, Untouched};
 
-use crate::earliest::{FAR, earliest_slots};
+use crate::earliest::Search;
 use crate::requests::check_request;
 use crate::route::Route;
-use crate::tracing::trace_back;
 use book::Book;
 use plan::Refusal;
 use walks::{Label, Request};
@@ -22,9 +21,10 @@ pub fn find_route<B: Book>(
         scratch.old scratch.new }
 {
     check_request(book, request, scratch)?;
-    let best = earliest_slots(book, request.origin, request.slot, scratch);
-    if best[request.destination as usize] == FAR {
-        return Err(Refusal::NoWalk);
-    }
-    Ok(trace_back(book, &best, request.origin, request.destination))
+    let search = Search::run(book, request, scratch);
+    search
+        .arrivals
+        .at(request.destination)
+        .ok_or(Refusal::NoWalk)?;
+    Ok(search.trace_back(request))
 }

@@ -1,6 +1,7 @@
 // The search for the route that a request is granted, over any book.
 #![tactic(auto)]
 
+mod arrivals;
 mod earliest;
 pub mod entries;
 pub mod finding;

@@ -4,10 +4,12 @@ ghost use Rattle.plan.specs.Limits.{most_junctions};
 
 use book::Leg;
 
+mod building;
 pub mod reading;
 
 // The legs stand in their order from the place `first` on, since a route is found from its end backwards. What stands
 // before them says nothing. No route has as many legs as a plan may have junctions.
+// An `ArrayVec` is not `Copy`, and a route is copied into each booking; so the legs are an array with the place beside it.
 #[derive(Clone, Copy)]
 pub struct Route {
     pub(crate) legs: [Leg; 64],

@@ -1,7 +1,6 @@
-// Tests of the search over a grid book and layers.
+// The worked example as a plan, and tests of the search over a grid book and layers.
 #![tactic(auto)]
 
-#[cfg(test)]
-mod example;
+pub mod example;
 #[cfg(test)]
 mod routes;

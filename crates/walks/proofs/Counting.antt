@@ -1,12 +1,10 @@
 -- Counts of the numbers below a bound that pass a test.
-use Rattle.std.proofs.Common.{◌≡◌, ℕ, zero, suc, ◌<◌, ◌≤◌, Bool, true, false, cond, refl, ⊎_elim, arith}
-use Rattle.std.proofs.lemmas.Bool.{both_ways, cases_eq}
+use Rattle.std.proofs.Common.{◌≡◌, ℕ, zero, suc, ◌<◌, ◌≤◌, Bool, true, false, cond, ⊎_elim, arith}
+use Rattle.std.proofs.lemmas.Bool.{cases_eq}
 use Rattle.walks.specs.Count.{count}
 
 one_le : (b c : Bool) → (b ≡ true → c ≡ true) → cond b 1 0 ≤ cond c 1 0
-one_le false c implies = omega arith
-one_le true true implies = omega arith
-one_le true false implies = absurd (both_ways false refl (implies refl))
+one_le b c implies = grind arith
 
 one_below : (b : Bool) → cond b 1 0 ≤ 1
 one_below b = grind arith

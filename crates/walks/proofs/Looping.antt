@@ -26,7 +26,7 @@ use Rattle.walks.specs.Searching.{
   remaining,
 }
 use Rattle.walks.specs.Walks.{from}
-use Rattle.walks.specs.declared.labels.Label.{Label}
+use Rattle.queue_client.specs.declared.label.Label.{Label}
 use Rattle.walks.proofs.Counting.{count_within}
 use Rattle.walks.proofs.Pending.{not_pending_any, not_pending_done, outgoing_pending, pendings_any}
 use Rattle.walks.proofs.Queues.{keeps_none, keeps_on, put_in}

@@ -1,6 +1,7 @@
 -- The segments that are yet to be relaxed.
-use Rattle.std.proofs.Common.{◌≡◌, ℕ, ◌+◌, ◌<◌, ◌≤◌, Bool, true, false, not, eqb, leb, List, refl, ⊎_elim, arith}
-use Rattle.std.proofs.lemmas.Bool.{and_cases, and_from, and_left, and_parts, and_right, both_ways, cases_eq, eq-eqb, eqb-false, le-leb, leb-false, leb-true, lt-leb, ne_eqb, not-false, not_from_true, or_from, or_parts, or_right}
+use Rattle.std.proofs.Common.{◌≡◌, ℕ, ◌+◌, ◌<◌, ◌≤◌, Bool, true, false, List, ⊎_elim, arith}
+use Rattle.std.proofs.lemmas.Bool.Decides.{nat_tests}
+use Rattle.std.proofs.lemmas.Bool.{cases_eq}
 use Rattle.book.specs.Meaning.{Meaning, segments}
 use Rattle.walks.specs.Labels.{done}
 use Rattle.walks.specs.Searching.{goes_out, outgoing, pending, pendings}
@@ -10,30 +11,24 @@ use Rattle.walks.proofs.Counting.{count_le, count_less}
 module _ (m : Meaning) (settled : List Bool) (v k i : ℕ) where
   -- a segment that is not pending starts at a settled junction, and was passed if that is v
   pub not_pending_done : pending m settled v k i ≡ false → done settled (from m i) ≡ true
-  not_pending_done free = not-false _ (or_parts _ _ free).0
+  not_pending_done free = grind (arith, nat_tests)
 
   pub not_pending_passed : pending m settled v k i ≡ false → from m i ≡ v → i < k
-  not_pending_passed free starts =
-      ⊎_elim
-      (λ apart. absurd (eqb-false _ _ apart starts))
-      (λ below. leb-false k i below)
-      (and_cases (eqb (from m i) v) (leb k i) (or_parts _ _ free).1)
+  not_pending_passed free starts = grind (arith, nat_tests)
 
   pub not_pending : done settled (from m i) ≡ true → (from m i ≡ v → i < k) → pending m settled v k i ≡ false
   not_pending now passed =
-      or_from _ _ (not_from_true _ now)
-      (⊎_elim
-      (λ starts. and_right (eqb (from m i) v) (leb k i) (lt-leb k i (passed starts)))
-      (λ apart. and_left (eqb (from m i) v) (leb k i) (ne_eqb _ _ apart))
-      (cases_eq (from m i) v))
+      ⊎_elim
+      (λ starts. let below = passed starts in grind (arith, nat_tests))
+      (λ apart. grind (arith, nat_tests))
+      (cases_eq (from m i) v)
 
   out_pending : goes_out m v k i ≡ true → pending m settled v k i ≡ true
-  out_pending out = or_right (not (done settled (from m i))) (goes_out m v k i) out
+  out_pending out = grind (arith, nat_tests)
 
 -- what was not relaxed before was pending then
 pending_before : (before after : Bool) → (before ≡ false → after ≡ false) → after ≡ true → before ≡ true
-pending_before true after stays pends = refl
-pending_before false after stays pends = absurd (both_ways after (stays refl) pends)
+pending_before before after stays pends = grind arith
 
 -- no more segments are pending where what was relaxed stays so
 pub pendings_le : (m : Meaning) (settled : List Bool) (v k : ℕ) (later : List Bool) (w l : ℕ)
@@ -55,7 +50,7 @@ pendings_any m settled v w =
     pendings_le m settled v (segments m) settled w (segments m) (not_pending_any m settled v w)
 
 out_here : (m : Meaning) (v k : ℕ) → from m k ≡ v → goes_out m v k k ≡ true
-out_here m v k starts = and_from (eqb (from m k) v) (leb k k) (eq-eqb _ _ starts) (le-leb k k (omega arith))
+out_here m v k starts = grind (arith, nat_tests)
 
 -- ---- one more segment is passed
 
@@ -89,10 +84,7 @@ module _ (m : Meaning) (settled : List Bool) (v k : ℕ) where
 
 module _ (m : Meaning) (v k : ℕ) where
   out_before : (i : ℕ) → i < segments m → goes_out m v (k + 1) i ≡ true → goes_out m v k i ≡ true
-  out_before i known out =
-      let parts = and_parts (eqb (from m i) v) (leb (k + 1) i) out in
-      let past = leb-true (k + 1) i parts.1 in
-      and_from (eqb (from m i) v) (leb k i) parts.0 (le-leb k i (omega arith))
+  out_before i known out = grind (arith, nat_tests)
 
   pub outgoing_passed : outgoing m v (k + 1) ≤ outgoing m v k
   outgoing_passed = count_le (segments m) (goes_out m v (k + 1)) (goes_out m v k) out_before
@@ -101,7 +93,7 @@ module _ (m : Meaning) (v k : ℕ) where
   outgoing_relaxed known starts =
       count_less (segments m) k (goes_out m v (k + 1)) (goes_out m v k) out_before
       known
-      (and_right (eqb (from m k) v) (leb (k + 1) k) (lt-leb (k + 1) k (omega arith)))
+      (grind (arith, nat_tests))
       (out_here m v k starts)
 
 -- every segment that starts at v is pending at first

@@ -1,31 +1,20 @@
 -- What is in a queue once a label was put in or taken out.
-use Rattle.std.proofs.Common.{◌≡◌, ℕ, zero, suc, ◌<◌, ◌≤◌, false, ◌⊎◌, List, [], ◌∷◌, length, refl, ◌∙◌, inl, inr, arith}
+use Rattle.std.proofs.Common.{◌≡◌, ◌≤◌, false, ◌⊎◌, List, [], ◌∷◌, refl, ◌∙◌, inl, inr, ⊎_elim, arith}
 use Rattle.std.specs.List.Sorted.{IsPermutation}
-use Rattle.std.specs.List.{HoldsAt, ContainsAt as Has, AllByRecursion}
-use Rattle.std.proofs.ByRecursion.{All-weaker, has_append_right, has_shuffled}
+use Rattle.std.specs.List.{ContainsAt as Has, AllByRecursion}
+use Rattle.std.proofs.ByRecursion.{All-weaker, has_append_cases, has_append_right, has_get_or, has_push_cases, has_shuffled}
 use Rattle.std.proofs.lemmas.Bool.Decides.{nat_tests}
 use Rattle.queue.specs.Queue.{Least}
 use Rattle.queue.specs.declared.Queue.{Queue}
 use Rattle.walks.specs.Labels.{label_before}
 use Rattle.walks.specs.Queues.{Keeps}
-use Rattle.walks.specs.declared.labels.Label.{Label}
-
-module _ {X : Type 0} where
-  has_first : (x : X) (xs : List X) → Has (x ∷ xs) x
-  has_first x xs = (0, omega arith, λ d. refl)
-
-  has_cases : (x y : X) (xs : List X) → Has (x ∷ xs) y → (x ≡ y) ⊎ Has xs y
-  has_cases x y xs has = by_place has.0 has.1 has.2
-    where
-      by_place : (k : ℕ) → k < length (x ∷ xs) → HoldsAt (λ z. z ≡ y) (x ∷ xs) k → (x ≡ y) ⊎ Has xs y
-      by_place zero within is = inl (is y)
-      by_place (suc k) within is = inr (k, omega arith, is)
+use Rattle.queue_client.specs.declared.label.Label.{Label}
 
 -- ---- x was put in
 
 module _ {q p : List Label} {x : Label} (put : IsPermutation (x ∷ q) p) where
   pub put_in : Has p x
-  put_in = has_shuffled (x ∷ q) p x put (has_first x q)
+  put_in = has_shuffled (x ∷ q) p x put (has_get_or (x ∷ q) 0 x (omega arith))
 
   pub put_keeps : (y : Label) → Has q y → Has p y
   put_keeps y has = has_shuffled (x ∷ q) p y put (has_append_right (x ∷ []) q y has)
@@ -33,7 +22,11 @@ module _ {q p : List Label} {x : Label} (put : IsPermutation (x ∷ q) p) where
 -- ---- x was taken out
 
 pub taken_keeps : {q p : List Label} {x : Label} → IsPermutation q (x ∷ p) → (y : Label) → Has q y → (x ≡ y) ⊎ Has p y
-taken_keeps {q} {p} {x} taken y has = has_cases x y p (has_shuffled q (x ∷ p) y taken has)
+taken_keeps {q} {p} {x} taken y has =
+    ⊎_elim
+    (λ first. ⊎_elim (λ none. let within = none.1 in absurd (omega arith)) inl (has_push_cases [] x y first))
+    inr
+    (has_append_cases (x ∷ []) p y (has_shuffled q (x ∷ p) y taken has))
 
 -- the least label has the smallest slot
 pub least_slot : {q : List Label} {x : Label} → Least label_before x q → AllByRecursion (λ y. x.slot ≤ y.slot) q

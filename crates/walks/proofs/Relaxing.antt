@@ -15,7 +15,7 @@ use Rattle.walks.specs.Labels.{at, done, far, label}
 use Rattle.walks.specs.Relaxed.{Better, Enough, Kept, Relaxed}
 use Rattle.walks.specs.Searching.{Ahead, Goes, Settling, pending}
 use Rattle.walks.specs.Walks.{Walk, from, leg, slots, to}
-use Rattle.walks.specs.declared.labels.Label.{Label}
+use Rattle.queue_client.specs.declared.label.Label.{Label}
 use Rattle.walks.proofs.Pending.{not_pending_done, passed_before, pendings_passed, pendings_relaxed}
 use Rattle.walks.proofs.Queues.{put_in, put_keeps}
 use Rattle.walks.proofs.Walking.{walk_push}

@@ -7,7 +7,7 @@ use Rattle.walks.specs.Queues.{Keeps}
 use Rattle.walks.specs.Relaxed.{Relaxed}
 use Rattle.walks.specs.Searching.{Goes, outgoing}
 use Rattle.walks.specs.Walks.{from}
-use Rattle.walks.specs.declared.labels.Label.{Label}
+use Rattle.queue_client.specs.declared.label.Label.{Label}
 use Rattle.walks.proofs.Pending.{outgoing_passed, outgoing_relaxed}
 use Rattle.walks.proofs.Queues.{keeps_none, keeps_on}
 use Rattle.walks.proofs.Relaxing.{goes_none, goes_on, goes_past, goes_relaxed, relaxed_length}

@@ -1,42 +1,25 @@
 -- What a solved table says of the earliest slots and of the tie rule.
-use Rattle.std.proofs.Common.{◌≡◌, ℕ, ◌<◌, ◌≤◌, ◌≢◌, List, length, subst, ⊎_elim, arith}
+use Rattle.std.proofs.Common.{◌≡◌, ℕ, ◌<◌, ◌≢◌, List, ⊎_elim, arith}
 use Rattle.std.proofs.lemmas.Bool.{cases_lt}
-use Rattle.book.specs.Meaning.{Meaning, Sound, segments}
+use Rattle.book.specs.Meaning.{Meaning, Sound}
 use Rattle.book.specs.declared.legs.Leg.{Leg}
 use Rattle.walks.specs.Labels.{at, far}
 use Rattle.walks.specs.Searching.{Solved}
 use Rattle.walks.specs.Tables.{TableInto, TableLast}
-use Rattle.walks.specs.Walks.{Earliest, Into, Last, from, to}
+use Rattle.walks.specs.Walks.{Earliest, Into, Last, from}
 use Rattle.walks.proofs.Existence.{some_into}
-use Rattle.walks.proofs.Walking.{earliest_origin, earliest_unique}
-
--- ---- the places of a segment's junctions
-
-module _ {m : Meaning} {i : ℕ} (sound : Sound m) (known : i < segments m) (best : List ℕ)
-    (long : m.shown.junctions ≤ length best) where
-  pub start_within : from m i < length best
-  start_within = let below = (sound.plan_fits.roads_fit i known).start_known in omega arith
-
-  pub end_within : to m i < length best
-  end_within = let below = (sound.plan_fits.roads_fit i known).end_known in omega arith
+use Rattle.walks.proofs.Walking.{earliest_unique}
 
 module _ {m : Meaning} {o t : ℕ} {best : List ℕ} (solved : Solved m o t best) where
   -- ---- earliest slots
 
-  pub earliest_table : (w a : ℕ) → w < m.shown.junctions → Earliest m o t w a → a ≡ at best w
+  earliest_table : (w a : ℕ) → w < m.shown.junctions → Earliest m o t w a → a ≡ at best w
   earliest_table w a known earliest =
       let bounded = solved.bounded w known in
       ⊎_elim
       (λ near. earliest_unique m o t w a (at best w) earliest (solved.earliest w known near))
       (λ away. absurd (solved.unreached w known (omega arith) (a, earliest.legs, earliest.walk)))
       (cases_lt (at best w) far)
-
-  pub table_origin : o < m.shown.junctions → t ≡ at best o
-  table_origin known = earliest_table o t known (earliest_origin m o t)
-
-  -- the table alone tells the slot at the origin
-  pub solved_from_origin : o < m.shown.junctions → Solved m o (at best o) best
-  solved_from_origin known = subst (λ s. Solved m o s best) (table_origin known) solved
 
   module _ (sound : Sound m) where
     -- ---- the tie rule

@@ -10,7 +10,7 @@ use Rattle.book.specs.Meaning.{Meaning, segments}
 use Rattle.walks.specs.Labels.{at, done, far, label, label_before}
 use Rattle.walks.specs.Searching.{Ahead, Searching, Settling, pending, pendings}
 use Rattle.walks.specs.Walks.{from}
-use Rattle.walks.specs.declared.labels.Label.{Label}
+use Rattle.queue_client.specs.declared.label.Label.{Label}
 use Rattle.walks.proofs.Pending.{not_pending, not_pending_done, not_pending_passed, pendings_le}
 use Rattle.walks.proofs.Queues.{least_slot, taken_keeps}
 

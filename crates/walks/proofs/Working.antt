@@ -1,6 +1,7 @@
 -- Worked routes: a table of slots is solved if no leg betters it and each slot is reached, which a finite test shows.
-use Rattle.std.proofs.Common.{◌≡◌, ℕ, zero, suc, ◌+◌, ◌<◌, ◌≤◌, Bool, true, false, not, ◌||◌, eqb, leb, ◌≢◌, List, [], ◌∷◌, length, get_or, replicate, sym, refl, ◌∙◌, subst, inr, arith}
+use Rattle.std.proofs.Common.{◌≡◌, ℕ, zero, suc, ◌+◌, ◌-◌, ◌<◌, ◌≤◌, Bool, true, false, not, ◌||◌, eqb, leb, ◌≢◌, List, [], ◌∷◌, length, get_or, replicate, sym, refl, ◌∙◌, subst, inr, arith}
 use Rattle.std.proofs.lemmas.List.{get_or-replicate, length-replicate}
+use Rattle.std.proofs.lemmas.Bool.Decides.{nat_tests}
 use Rattle.std.proofs.lemmas.Bool.{both_ways, le-leb, leb-true, ne_eqb}
 use Rattle.plan.specs.Limits.{most_legs}
 use Rattle.book.specs.Below.{all_below}
@@ -14,7 +15,7 @@ use Rattle.walks.specs.Examples.{Worked, WorkedRoutes, after_first, after_second
 use Rattle.walks.specs.Labels.{at, far}
 use Rattle.walks.specs.Relaxed.{Enough}
 use Rattle.walks.specs.Searching.{Solved}
-use Rattle.walks.specs.Tables.{TableInto, TableLast}
+use Rattle.walks.specs.Tables.{TableLast}
 use Rattle.walks.specs.Walks.{Last, Takes, Walk, from, leg, slots, to}
 use Rattle.walks.proofs.Solving.{solved}
 use Rattle.walks.proofs.Tables.{table_last}
@@ -53,6 +54,25 @@ table_solved m sound o t best known early long origin reached none =
       ahead = tt;
       relaxed = λ i i_known _. enough m sound best none i i_known;
     }) known early
+
+-- segment i cannot be the last one into v
+abbrev not_last : Meaning → List ℕ → ℕ → ℕ → Bool
+not_last m best v i = not (eqb (to m i) v) || not (leb (at best (from m i) + slots m i) (at best v))
+
+-- segment i is the last one into v where none below it can be, which a finite test shows
+lowest_last : (m : Meaning) (best : List ℕ) (v i : ℕ) → i < segments m → to m i ≡ v
+    → at best (from m i) + slots m i ≤ at best v → admissible m (leg i (at best v - slots m i)) ≡ true
+    → all_below i (not_last m best v) ≡ true → TableLast m best v (leg i (at best v - slots m i)) (from m i)
+lowest_last m best v i known ends reaches fits none = record {
+  into = record { known = known; ends = ends; reaches = reaches; fits = fits };
+  lowest = λ j below into.
+      let test = all_at i (not_last m best v) j none below in
+      let j_ends = into.ends in
+      let j_reaches = into.reaches in
+      grind (arith, nat_tests);
+  enters = refl;
+  starts = refl;
+}
 
 -- ---- the example
 
@@ -181,23 +201,9 @@ unfolding admissible has_room load_below closing
 first_route =
     two_legs example example_sound first_best 1 9 (leg 0 0) (leg 1 4) first_table refl (omega arith) (λ same. omega arith)
     (omega arith) (omega arith) refl refl
-    (record {
-      into = record { known = omega arith; ends = refl; reaches = omega arith; fits = refl };
-      lowest = λ j below. absurd (omega arith);
-      enters = refl;
-      starts = refl;
-    })
-    (record {
-      into = record { known = omega arith; ends = refl; reaches = omega arith; fits = refl };
-      lowest = lowest;
-      enters = refl;
-      starts = refl;
-    })
+    (lowest_last example first_best 1 0 (omega arith) refl (omega arith) refl refl)
+    (lowest_last example first_best 3 1 (omega arith) refl (omega arith) refl refl)
     first_walk
-  where
-    lowest : (j : ℕ) → j < 1 → TableInto example first_best 3 j → ⊥
-    lowest zero below into = let ends = into.ends in omega arith
-    lowest (suc j) below into = omega arith
 
 -- ---- the second
 
@@ -227,31 +233,9 @@ unfolding admissible has_room load_below closing
 second_route =
     two_legs after_first after_first_sound second_best 2 9 (leg 2 0) (leg 3 5) second_table refl (omega arith)
     (λ same. omega arith) (omega arith) (omega arith) refl refl
-    (record {
-      into = record { known = omega arith; ends = refl; reaches = omega arith; fits = refl };
-      lowest = into_two;
-      enters = refl;
-      starts = refl;
-    })
-    (record {
-      into = record { known = omega arith; ends = refl; reaches = omega arith; fits = refl };
-      lowest = into_three;
-      enters = refl;
-      starts = refl;
-    })
+    (lowest_last after_first second_best 2 2 (omega arith) refl (omega arith) refl refl)
+    (lowest_last after_first second_best 3 3 (omega arith) refl (omega arith) refl refl)
     second_walk
-  where
-    into_two : (j : ℕ) → j < 2 → TableInto after_first second_best 2 j → ⊥
-    into_two zero below into = let ends = into.ends in omega arith
-    into_two (suc zero) below into = let ends = into.ends in omega arith
-    into_two (suc (suc j)) below into = omega arith
-
-    -- over segment 1 the destination is reached at 13
-    into_three : (j : ℕ) → j < 3 → TableInto after_first second_best 3 j → ⊥
-    into_three zero below into = let ends = into.ends in omega arith
-    into_three (suc zero) below into = let reaches = into.reaches in omega arith
-    into_three (suc (suc zero)) below into = let ends = into.ends in omega arith
-    into_three (suc (suc (suc j))) below into = omega arith
 
 -- ---- the third
 
@@ -281,23 +265,9 @@ unfolding admissible has_room load_below closing
 third_route =
     two_legs after_second after_second_sound third_best 1 14 (leg 0 4) (leg 1 9) third_table refl (omega arith)
     (λ same. omega arith) (omega arith) (omega arith) refl refl
-    (record {
-      into = record { known = omega arith; ends = refl; reaches = omega arith; fits = refl };
-      lowest = λ j below. absurd (omega arith);
-      enters = refl;
-      starts = refl;
-    })
-    (record {
-      into = record { known = omega arith; ends = refl; reaches = omega arith; fits = refl };
-      lowest = lowest;
-      enters = refl;
-      starts = refl;
-    })
+    (lowest_last after_second third_best 1 0 (omega arith) refl (omega arith) refl refl)
+    (lowest_last after_second third_best 3 1 (omega arith) refl (omega arith) refl refl)
     third_walk
-  where
-    lowest : (j : ℕ) → j < 1 → TableInto after_second third_best 3 j → ⊥
-    lowest zero below into = let ends = into.ends in omega arith
-    lowest (suc j) below into = omega arith
 
 pub worked_routes : WorkedRoutes
 worked_routes = record { first = first_route; second = second_route; third = third_route }

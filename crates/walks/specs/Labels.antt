@@ -1,15 +1,11 @@
 -- The labels of a search, and its two tables.
-use Rattle.std.specs.Prelude.{ℕ, Bool, false, List, nat_lt, slice_index, slice_index_or}
-use Rattle.queue.specs.Order.{by_number}
-use Rattle.walks.specs.declared.labels.Label.{Label}
+use Rattle.std.specs.Prelude.{ℕ, Bool, false, List, slice_index, slice_index_or}
+pub use Rattle.queue_client.specs.Kinds.{label_before}
+use Rattle.queue_client.specs.declared.label.Label.{Label}
 
 -- junction v is reached at slot s
 abbrev pub label : ℕ → ℕ → Label
 label s v = record { slot = s; junction = v }
-
--- by slot, then by junction
-abbrev pub label_before : Label → Label → Bool
-label_before a b = by_number a.slot b.slot (nat_lt a.junction b.junction)
 
 -- stands in the table of slots where no walk is known
 abbrev pub far : ℕ

@@ -7,7 +7,7 @@ use Rattle.book.specs.Loads.{admissible}
 use Rattle.book.specs.Meaning.{Meaning}
 use Rattle.walks.specs.Labels.{at, label}
 use Rattle.walks.specs.Walks.{from, leg, slots, to}
-use Rattle.walks.specs.declared.labels.Label.{Label}
+use Rattle.queue_client.specs.declared.label.Label.{Label}
 
 -- no leg over segment i brings its end a better slot
 abbrev pub Enough : Meaning → ℕ → List ℕ → Type 0

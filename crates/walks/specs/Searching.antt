@@ -8,7 +8,7 @@ use Rattle.walks.specs.Count.{count}
 use Rattle.walks.specs.Labels.{at, done, far, label}
 use Rattle.walks.specs.Relaxed.{Enough}
 use Rattle.walks.specs.Walks.{Earliest, SomeWalk, Walk, from}
-use Rattle.walks.specs.declared.labels.Label.{Label}
+use Rattle.queue_client.specs.declared.label.Label.{Label}
 
 -- ---- segments that are yet to be relaxed
 

@@ -1,52 +1,43 @@
-use Rattle.std.proofs.Common.{length, sym, ap, inl, inr, arith}
-use Rattle.search.proofs.Checking.{all_checked, checked, junction_unknown, same_junctions, scratch_short, slot_late}
+use Rattle.std.proofs.Common.{◌<◌, length, ap, arith}
+use Rattle.std.proofs.lemmas.Bool.Decides.{nat_tests}
+use Rattle.book.specs.Meaning.{segments}
+use Rattle.search.specs.Requests.{checks}
+use Rattle.search.proofs.Checking.{checked}
 use Rattle.search.proofs.requests.check_request.Goals as goal
 
 pub returns-then-request-sizes : goal.returns-then-request-sizes
+unfolding checks
 returns-then-request-sizes g c =
-    let m = g.B.Book.meaning c.args.book.now in
     let junctions = ap (λ s. s.junctions) c.sizes-sizes.ensures in
-    checked m c.args.request (length c.args.scratch.now) _ (sym (junction_unknown m c.args.request (length c.args.scratch.now)
-    (elim c.then-request-sizes.either [
-      | inl origin ↦ inl (omega (arith, junctions, origin))
-      | inr destination ↦ inr (omega (arith, junctions, destination.1))
-    ])))
+    checked _ _ _ _ (grind (arith, nat_tests))
 
 pub returns-then-request : goal.returns-then-request
+unfolding checks
 returns-then-request g c =
-    let m = g.B.Book.meaning c.args.book.now in
     let junctions = ap (λ s. s.junctions) c.sizes-sizes.ensures in
-    checked m c.args.request (length c.args.scratch.now) _ (sym (same_junctions m c.args.request (length c.args.scratch.now) (omega (arith, junctions, c.if-request-sizes.false))
-    (omega (arith, junctions, c.if-request-sizes-2.false))
-    c.if-request.true))
+    checked _ _ _ _ (grind (arith, nat_tests))
 
 pub returns-then-request-sizes-3 : goal.returns-then-request-sizes-3
+unfolding checks
 returns-then-request-sizes-3 g c =
-    let m = g.B.Book.meaning c.args.book.now in
     let junctions = ap (λ s. s.junctions) c.sizes-sizes.ensures in
     let horizon = ap (λ s. s.horizon) c.sizes-sizes.ensures in
-    checked m c.args.request (length c.args.scratch.now) _ (sym (slot_late m c.args.request (length c.args.scratch.now) (omega (arith, junctions, c.if-request-sizes.false))
-    (omega (arith, junctions, c.if-request-sizes-2.false))
-    c.if-request.false (omega (arith, horizon, c.if-request-sizes-3.true))))
+    checked _ _ _ _ (grind (arith, nat_tests))
 
 pub returns-then-scratch-sizes : goal.returns-then-scratch-sizes
+unfolding checks
 returns-then-scratch-sizes g c =
-    let m = g.B.Book.meaning c.args.book.now in
     let junctions = ap (λ s. s.junctions) c.sizes-sizes.ensures in
     let horizon = ap (λ s. s.horizon) c.sizes-sizes.ensures in
     let segments = ap (λ s. s.segments) c.sizes-sizes.ensures in
-    checked m c.args.request (length c.args.scratch.now) _ (sym (scratch_short m c.args.request (length c.args.scratch.now) (omega (arith, junctions, c.if-request-sizes.false))
-    (omega (arith, junctions, c.if-request-sizes-2.false))
-    c.if-request.false (omega (arith, horizon, c.if-request-sizes-3.false))
-    (omega (arith, segments, c.if-scratch-sizes.true))))
+    checked _ _ _ _ (grind (arith, nat_tests))
 
 pub returns : goal.returns
+unfolding checks
 returns g c =
-    let m = g.B.Book.meaning c.args.book.now in
     let junctions = ap (λ s. s.junctions) c.sizes-sizes.ensures in
     let horizon = ap (λ s. s.horizon) c.sizes-sizes.ensures in
-    let segments = ap (λ s. s.segments) c.sizes-sizes.ensures in
-    checked m c.args.request (length c.args.scratch.now) _ (sym (all_checked m c.args.request (length c.args.scratch.now) (omega (arith, junctions, c.if-request-sizes.false))
-    (omega (arith, junctions, c.if-request-sizes-2.false))
-    c.if-request.false (omega (arith, horizon, c.if-request-sizes-3.false))
-    (omega (arith, segments, c.if-scratch-sizes.false))))
+    let few = ap (λ s. s.segments) c.sizes-sizes.ensures in
+    let enough : segments (g.B.Book.meaning c.args.book.now) < length c.args.scratch.now =
+    omega (arith, few, c.if-scratch-sizes.false) in
+    checked _ _ _ _ (grind (arith, nat_tests))
