@@ -28,8 +28,8 @@ rejected() {
 rejected "a hold that arrives" \
     "controller.confirm(hold)" \
     "controller.arrive(hold)" \
-    "expected \`Passage\`, found \`Hold\`"
+    "expected \`Token<UnderWay>\`, found \`Token<Held>\`"
 rejected "a passage that is withdrawn" \
-    "Ok(passage) => Outcome::UnderWay(passage)," \
-    "Ok(passage) => match controller.withdraw(passage) { Ok(()) => Outcome::Refused(Refusal::NoWalk), Err((refusal, hold)) => Outcome::Held(refusal, hold) }," \
-    "expected \`Hold\`, found \`Passage\`"
+    "Ok(passage)" \
+    "Ok(controller.withdraw(passage)?)" \
+    "expected \`Token<Held>\`, found \`Token<UnderWay>\`"

@@ -1,19 +1,17 @@
 -- What a request comes to.
-use Rattle.std.proofs.Common.{◌≡◌, ℕ, ◌+◌, ◌<◌, ◌≤◌, true, List, [], ◌∷◌, length, is_ok, Ok, Err, Result, sym, refl, ap, ◌∙◌, inl, inr}
-use Rattle.std.proofs.lemmas.Bool.{true≢false}
+use Rattle.std.proofs.Common.{◌≡◌, ℕ, ◌+◌, ◌≤◌, true, List, [], ◌∷◌, length, Ok, Err, refl}
 use Rattle.std.specs.List.{AllByRecursion}
 use Rattle.plan.specs.Limits.{most_legs}
 use Rattle.plan.specs.declared.refusals.Refusal.{Refusal}
-use Rattle.plan.specs.declared.refusals.Refusal.TheVariants.{TooManyLegs}
 use Rattle.book.specs.Loads.{admissible}
 use Rattle.book.specs.Meaning.{Meaning, Sound, total}
 use Rattle.book.specs.declared.legs.Leg.{Leg}
-use Rattle.search.specs.Finds.{Finds, Granted}
+use Rattle.search.specs.Finds.{Granted}
 use Rattle.search.specs.Requests.{checks}
 use Rattle.walks.specs.Walks.{Walk, end_of, to}
 use Rattle.walks.specs.declared.requests.Request.{Request}
 use Rattle.walks.proofs.Visiting.{chosen_segments}
-use Rattle.bookings.specs.Answers.{Grants, Refuses, before_search, vacancy}
+use Rattle.bookings.specs.Answers.{before_search, vacancy}
 use Rattle.bookings.specs.Reserving.{Reservable}
 
 module _ (m : Meaning) (n k : ℕ) (q : Request) (room : ℕ) where
@@ -24,22 +22,6 @@ module _ (m : Meaning) (n k : ℕ) (q : Request) (room : ℕ) where
   -- after the checks the register decides
   pub past_checks : checks m q room ≡ Ok tt → before_search m n k q room ≡ vacancy n k
   past_checks passed = rw passed refl
-
-  module _ (passed : checks m q room ≡ Ok tt) (vacant : vacancy n k ≡ Ok tt) where
-    pub before_search_passed : before_search m n k q room ≡ Ok tt
-    before_search_passed = past_checks passed ∙ vacant
-
-    -- past the checks a search refuses only where no walk exists
-    pub refused_by_search : (x : Refusal) → Finds m q room (Err x) → Refuses m n k q room x
-    refused_by_search x (inl refused) = absurd (true≢false (ap is_ok (sym passed ∙ refused)))
-    refused_by_search x (inr found) = inr (before_search_passed, inl (found.2, found.1))
-
-    module _ (legs : List Leg) (granted : Granted m q legs) where
-      pub too_many_legs : most_legs < total m + length legs → Refuses m n k q room TooManyLegs
-      too_many_legs above = inr (before_search_passed, inr (legs, granted, above, refl))
-
-      pub route_granted : total m + length legs ≤ most_legs → Grants m n k q room legs
-      route_granted fits = record { passes = before_search_passed; granted = granted; fits = fits }
 
 -- the legs of a granted route can all be reserved, where the total stays within what a book may have
 walk_admissible : (m : Meaning) (o t v a : ℕ) (legs : List Leg) → Walk m o t v a legs
@@ -55,13 +37,3 @@ granted_reservable m sound q legs granted fits = record {
   apart = chosen_segments m sound q.origin q.slot q.destination legs granted.chosen;
   fits = fits;
 }
-
--- and the register has a number and a place for it
-pub granted_vacant : (m : Meaning) (n k : ℕ) (q : Request) (room : ℕ) (legs : List Leg) → Grants m n k q room legs
-    → vacancy n k ≡ Ok tt
-granted_vacant m n k q room legs grants = by_checks (checks m q room) refl
-  where
-    by_checks : (r : Result (Unit {0}) Refusal) → checks m q room ≡ r → vacancy n k ≡ Ok tt
-    by_checks (Ok _) passed = sym (past_checks m n k q room passed) ∙ grants.passes
-    by_checks (Err x) refused =
-        absurd (true≢false (ap is_ok (sym grants.passes ∙ refused_by_checks m n k q room x refused)))

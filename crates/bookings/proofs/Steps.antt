@@ -1,17 +1,15 @@
 -- The steps that the calls make.
 use Rattle.std.proofs.Common.{◌≡◌, ℕ, length, Some, None, sym, ap, ◌∙◌, arith}
-use Rattle.plan.specs.declared.refusals.Refusal.{Refusal}
 use Rattle.book.specs.Meaning.{Meaning}
 use Rattle.search.specs.Routes.{legs_of}
 use Rattle.search.specs.declared.route.Route.{Route}
 use Rattle.walks.specs.declared.requests.Request.{Request}
-use Rattle.bookings.specs.Answers.{Answers, Grants}
+use Rattle.bookings.specs.Answers.{Grants}
 use Rattle.bookings.specs.Owed.{changed, more, over, without}
 use Rattle.bookings.specs.Registers.{DoneWith, ListedToo}
 use Rattle.bookings.specs.States.{leads_to}
 use Rattle.bookings.specs.Steps.{Step, listed}
 use Rattle.bookings.specs.declared.calls.Answer.TheVariants as answer
-use Rattle.bookings.specs.declared.calls.Call.{Call}
 use Rattle.bookings.specs.declared.calls.Call.TheVariants as call
 use Rattle.bookings.specs.declared.register.Register.{Register}
 use Rattle.bookings.specs.declared.states.Act.{Act}
@@ -20,18 +18,6 @@ use Rattle.bookings.specs.declared.states.State.TheVariants.{Held}
 use Rattle.bookings.proofs.Owing.{over_granted, over_moved, over_without}
 
 module _ (m m' : Meaning) (g g' : Register) where
-  -- a refusal changes nothing
-  pub refused_step : (c : Call) (x : Refusal) → Answers m (listed g) g.last c (answer.Refused x) → m' ≡ m → g' ≡ g
-      → Step m g c (answer.Refused x) m' g'
-  refused_step c x answers book register = record {
-    answers = answers;
-    owes = ap listed register;
-    numbers = ap (λ (y : Register). y.last) register;
-    withdrawn = let same = ap (λ (y : Register). y.withdrawn) register in omega arith;
-    arrived = let same = ap (λ (y : Register). y.arrived) register in omega arith;
-    agrees = λ w agreed. book ∙ agreed ∙ ap (λ y. over w (listed y)) (sym register);
-  }
-
   module _ (act : Act) (n : ℕ) (route : Route) (done : DoneWith g act n route g') where
     done_step : ((w : Meaning) → m ≡ over w (listed g) → m' ≡ over w (changed (leads_to act) n (listed g)))
         → Step m g (call.Act act n) answer.Done m' g'

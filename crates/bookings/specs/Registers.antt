@@ -1,5 +1,6 @@
 -- What a register does.
 use Rattle.std.specs.Prelude.{◌≡◌, ℕ, suc, ◌+◌, true, false, cond, List, [], ◌∷◌, ◌++◌, length, Some, None, Ok, Err, Option, Result, ◌==◌}
+use Rattle.std.specs.List.{find}
 use Rattle.plan.specs.declared.refusals.Refusal.{Refusal}
 use Rattle.search.specs.Routes.{legs_of}
 use Rattle.search.specs.declared.route.Route.{Route}
@@ -32,8 +33,7 @@ place n (b ∷ bs) = cond (b.number == n) 0 (suc (place n bs))
 
 -- that booking
 abbrev pub first_with : ℕ → List Booking → Option Booking
-first_with n [] = None
-first_with n (b ∷ bs) = cond (b.number == n) (Some b) (first_with n bs)
+first_with n bs = find (λ b. b.number == n) bs
 
 -- ---- acts
 

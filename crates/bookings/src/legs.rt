@@ -12,6 +12,7 @@ pub fn reserve_all<B: Book>(book: &mut B, legs: &[Leg])
         → B.Book.meaning book.new ≡ more (B.Book.meaning book.old) legs.now }
 {
     for leg in legs {
+        // A refusal is let go: the contract says where there is none.
         let _ = book.reserve(*leg);
     }
 }

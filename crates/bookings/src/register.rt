@@ -9,8 +9,8 @@ pub mod entering;
 pub mod finding;
 pub mod tallying;
 
-// Room for all bookings is reserved when a register is made. `last` is the last number given, 0 at first; it counts the
-// bookings granted.
+// Room for all bookings is reserved when a register is made, so that no call allocates: hence a list that is searched,
+// and no map. `last` is the last number given, 0 at first; it counts the bookings granted.
 #[derive(Drop)]
 pub struct Register {
     bookings: Vec<Booking>,

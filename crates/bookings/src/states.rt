@@ -2,7 +2,7 @@
 use search::Route;
 
 // Held or under way, and for each whether its token is out or parked.
-#[derive(Clone, Copy)]
+#[derive(Clone, Copy, PartialEq, Eq, Debug)]
 pub enum State {
     Held,
     HeldParked,
@@ -11,7 +11,7 @@ pub enum State {
 }
 
 // What is done with a booking by its number.
-#[derive(Clone, Copy)]
+#[derive(Clone, Copy, PartialEq, Eq, Debug)]
 pub enum Act {
     Confirm,
     Withdraw,
@@ -23,13 +23,14 @@ pub enum Act {
 }
 
 // What becomes of a booking by an act: it comes to a state, or it ends.
-#[derive(Clone, Copy)]
+#[derive(Clone, Copy, PartialEq, Eq, Debug)]
 pub enum Next {
     To(State),
     Withdrawn,
     Arrived,
 }
 
+// A route keeps junk in front of its first leg, so that equal bookings may differ there: no equality is derived.
 #[derive(Clone, Copy)]
 pub struct Booking {
     pub number: u16,
@@ -38,7 +39,7 @@ pub struct Booking {
 }
 
 // How many bookings have been granted, and what became of them.
-#[derive(Clone, Copy)]
+#[derive(Clone, Copy, PartialEq, Eq, Debug)]
 pub struct Tally {
     pub granted: u16,
     pub standing: u16,

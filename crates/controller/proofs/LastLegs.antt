@@ -1,5 +1,5 @@
--- The timing of a route by the places of its first and last leg.
-use Rattle.std.proofs.Common.{◌≡◌, ◌-◌, ◌≢◌, List, [], ◌∷◌, length, get_or, Some, None, refl, ap, ◌∙◌, arith}
+-- The timing of a route by its first and its last leg.
+use Rattle.std.proofs.Common.{◌≡◌, ◌-◌, ◌<◌, List, [], ◌∷◌, length, get_or, Some, sym, refl, ap, ap₂, ◌∙◌, arith}
 use Rattle.book.specs.Meaning.{Meaning}
 use Rattle.book.specs.declared.legs.Leg.{Leg}
 use Rattle.walks.specs.Walks.{end_of}
@@ -9,18 +9,10 @@ last_leg_at : (l : Leg) (legs : List Leg) (d : Leg) → last_leg l legs ≡ get_
 last_leg_at l [] d = refl
 last_leg_at l (k ∷ legs) d = last_leg_at k legs d
 
-pub timing_by_places : (m : Meaning) (legs : List Leg) (d : Leg) → length legs ≢ 0
-    → timing_of m legs
-    ≡ Some (record {
-      departure = (get_or legs 0 d).entry;
-      arrival = end_of m (get_or legs (length legs - 1) d);
-      legs = length legs;
-    })
-timing_by_places m [] d some = absurd (some refl)
-timing_by_places m (l ∷ legs) d some =
-    let last = last_leg_at l legs d ∙ ap (λ k. get_or (l ∷ legs) k d) (omega arith) in
-    ap (λ k. Some (record { departure = l.entry; arrival = end_of m k; legs = length (l ∷ legs) })) last
-
-pub no_timing : (m : Meaning) (legs : List Leg) → length legs ≡ 0 → None ≡ timing_of m legs
-no_timing m [] none = refl
-no_timing m (l ∷ legs) none = absurd (omega arith)
+pub timing_by_ends : (m : Meaning) (legs : List Leg) (first last : Leg) → 0 < length legs
+    → first ≡ get_or legs 0 first → last ≡ get_or legs (length legs - 1) last
+    → Some (record { departure = first.entry; arrival = end_of m last; legs = length legs }) ≡ timing_of m legs
+timing_by_ends m [] first last some at_first at_last = absurd (omega arith)
+timing_by_ends m (l ∷ legs) first last some at_first at_last =
+    ap₂ (λ (x y : Leg). Some (record { departure = x.entry; arrival = end_of m y; legs = length (l ∷ legs) })) at_first
+    (at_last ∙ ap (λ k. get_or (l ∷ legs) k last) (omega arith) ∙ sym (last_leg_at l legs last))

@@ -1,7 +1,8 @@
 -- Events written one after the other.
-use Rattle.std.proofs.Common.{◌≡◌, ℕ, ◌+◌, ◌-◌, ◌*◌, ◌<◌, ◌≤◌, List, [], ◌∷◌, ◌++◌, length, get_or, take, drop, set, Some, None, Ok, Err, Option, Result, sym, refl, ap, ◌∙◌, subst, arith, MatchResult}
-use Rattle.std.proofs.lemmas.List.{append_assoc, append-nil, drop_all, drop-append-le, drop-drop, drop-set-lt, length-append, length-set, length-take-le, take_all, take-append-le, take_more, take_more_set}
+use Rattle.std.proofs.Common.{◌≡◌, ℕ, ◌+◌, ◌-◌, ◌*◌, ◌<◌, ◌≤◌, List, [], ◌∷◌, ◌++◌, length, get_or, take, drop, Some, None, Ok, Err, Option, Result, sym, refl, ap, ◌∙◌, subst, arith, MatchResult}
+use Rattle.std.proofs.lemmas.List.{append_assoc, append-nil, drop_all, drop-append-le, drop-drop, length-append, length-drop, length-take-le, take_all, take-append-le, take_more}
 use Rattle.std.proofs.lemmas.List.Sorted.{length_permutation}
+use Rattle.std.proofs.lemmas.Slice.{drop-put_mid, take-put_mid}
 use Rattle.std.specs.List.Sorted.{IsSortedWithin, IsPermutation}
 use Rattle.book.specs.Meaning.{Meaning}
 use Rattle.bookings.specs.declared.states.Booking.{Booking}
@@ -10,24 +11,27 @@ use Rattle.queue_client.specs.Sort.{Sorted, Unsorted}
 use Rattle.search.specs.Routes.{legs_of}
 use Rattle.controller.specs.Events.{Collected, ListsShift, event_before, events_of, two_events}
 use Rattle.controller.specs.Timings.{timing_of}
-use Rattle.controller.specs.declared.events.Change.TheVariants.{Departure, End}
-use Rattle.controller.specs.declared.events.Event.{Event}
+use Rattle.queue_client.specs.declared.event.Event.{Event}
 use Rattle.controller.specs.declared.timings.Timing.{Timing}
+use borrow.Rule.Slice.PartMut.{put_mid, same_len_mid}
 
--- one event more, at the place after the others
-collected_next : (events before after : List Event) (count : ℕ) (e : Event) → count < length after
-    → Collected events before after count → Collected (events ++ (e ∷ [])) before (set after count e) (count + 1)
-collected_next events before after count e within old =
+-- more events, at the k places after the others
+collected_more : (events before after more : List Event) (count k : ℕ) → length more ≡ k → count + k ≤ length after
+    → Collected events before after count → Collected (events ++ more) before (put_mid count k after more) (count + k)
+collected_more events before after more count k long room old =
     let counted = old.counted in
+    let middle = length-take-le k (drop count after) (omega (arith, length-drop count after)) in
     record {
-      counted = omega (arith, length-append events (e ∷ []));
-      fits = omega (arith, length-set after count e);
-      first = take_more_set after count e within ∙ ap (λ xs. xs ++ (e ∷ [])) old.first;
+      counted = omega (arith, length-append events more);
+      fits = omega (arith, same_len_mid count k after more (omega (arith, middle)));
+      first =
+          take-put_mid count k after more (count + k) (omega arith) (omega arith)
+          ∙ ap (λ xs. xs ++ more) old.first;
       rest =
-          drop-set-lt (count + 1) after count e (omega arith)
-          ∙ sym (drop-drop 1 count after)
-          ∙ ap (drop 1) old.rest
-          ∙ drop-drop 1 count before;
+          drop-put_mid count k after more (count + k) (omega arith) (omega arith) long
+          ∙ sym (drop-drop k count after)
+          ∙ ap (drop k) old.rest
+          ∙ drop-drop k count before;
     }
 
 -- the events of one booking more
@@ -73,35 +77,22 @@ module _ (m : Meaning) (bs : List Booking) (before after : List Event) (i count 
     long = old.long;
   }
 
-  module _ (t : Timing) (is : Some t ≡ timing_of m (legs_of b.route)) where
-    fits : count + 1 < length after
-    fits = let room = old.room in omega arith
-
-    abbrev pub departure : Event
-    departure = record { slot = t.departure; change = Departure; number = b.number }
-
-    abbrev pub end : Event
-    end = record { slot = t.arrival; change = End; number = b.number }
-
-    pub collected_both : CollectedFrom m bs before (set (set after count departure) (count + 1) end) (i + 1) (count + 2)
-    collected_both =
-        let events = events_of m (take i bs) in
-        let one = collected_next events before after count departure (omega (arith, fits)) old.collected in
-        let long = length-set after count departure in
-        let two =
-        collected_next (events ++ (departure ∷ [])) before (set after count departure) (count + 1) end
-        (omega (arith, fits)) one in
-        let written = set (set after count departure) (count + 1) end in
-        record {
-          collected =
-              subst (Collected (events_of m (take (i + 1) bs)) before written) (omega arith)
-              (subst (λ es. Collected es before written (count + 1 + 1))
-              (append_assoc events (departure ∷ []) (end ∷ []) ∙ events_so_far (Some t) is) two);
-          room =
-              let room = old.room in
-              omega (arith, length-set after count departure, length-set (set after count departure) (count + 1) end);
-          long = length-set (set after count departure) (count + 1) end ∙ long ∙ old.long;
-        }
+  pub collected_both : (t : Timing) → Some t ≡ timing_of m (legs_of b.route)
+      → CollectedFrom m bs before (put_mid count 2 after (two_events b.number (Some t))) (i + 1) (count + 2)
+  collected_both t is =
+      let room = old.room in
+      let fits : count + 2 ≤ length after = omega arith in
+      let middle = length-take-le 2 (drop count after) (omega (arith, length-drop count after)) in
+      let two = two_events b.number (Some t) in
+      let long : length (put_mid count 2 after two) ≡ length after =
+      same_len_mid count 2 after two (omega (arith, middle)) in
+      record {
+        collected =
+            subst (λ es. Collected es before (put_mid count 2 after two) (count + 2)) (events_so_far (Some t) is)
+            (collected_more (events_of m (take i bs)) before after two count 2 refl fits old.collected);
+        room = omega (arith, long);
+        long = long ∙ old.long;
+      }
 
 -- the events, once they are sorted in their places
 pub shift_listed : (events before collected items sorted scratch used post : List Event) (count : ℕ)

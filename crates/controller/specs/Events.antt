@@ -1,24 +1,14 @@
--- The events of the bookings that stand, and their order.
-use Rattle.std.specs.Prelude.{◌≡◌, ℕ, ◌≤◌, Bool, List, [], ◌∷◌, ◌++◌, length, take, drop, Some, None, Option, nat_lt}
+-- The events of the bookings that stand.
+use Rattle.std.specs.Prelude.{◌≡◌, ℕ, ◌≤◌, List, [], ◌∷◌, ◌++◌, length, take, drop, Some, None, Option}
 use Rattle.std.specs.List.Sorted.{IsSortedWithin, IsPermutation}
 use Rattle.book.specs.Meaning.{Meaning}
 use Rattle.bookings.specs.declared.states.Booking.{Booking}
-use Rattle.queue.specs.Order.{by_number}
+pub use Rattle.queue_client.specs.Kinds.{event_before}
+use Rattle.queue_client.specs.declared.event.Change.TheVariants.{Departure, End}
+use Rattle.queue_client.specs.declared.event.Event.{Event}
 use Rattle.search.specs.Routes.{legs_of}
 use Rattle.controller.specs.Timings.{timing_of}
-use Rattle.controller.specs.declared.events.Change.{Change}
-use Rattle.controller.specs.declared.events.Change.TheVariants.{Departure, End}
-use Rattle.controller.specs.declared.events.Event.{Event}
 use Rattle.controller.specs.declared.timings.Timing.{Timing}
-
-abbrev pub rank : Change → ℕ
-rank End = 0
-rank Departure = 1
-
--- by slot; at one slot ends before departures; then by number
-abbrev pub event_before : Event → Event → Bool
-event_before a b =
-    by_number a.slot b.slot (by_number (rank a.change) (rank b.change) (nat_lt a.number b.number))
 
 -- the departure and the end of the booking with a number
 abbrev pub two_events : ℕ → Option Timing → List Event

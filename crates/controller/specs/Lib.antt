@@ -1,5 +1,6 @@
 pub mod Told
+pub mod Stepped
+pub mod Kinds
 pub mod Requested
 pub mod Timings
 pub mod Events
-pub mod EventOrder

@@ -2,11 +2,10 @@
 #![tactic(auto)]
 
 pub mod controller;
-pub mod events;
 pub mod timings;
 pub mod tokens;
 
 pub use controller::Controller;
-pub use events::{Change, Event};
+pub use queue_client::event::{Change, Event};
 pub use timings::Timing;
-pub use tokens::{Hold, Passage};
+pub use tokens::{Held, Hold, Kind, Passage, Token, UnderWay};

@@ -1,40 +1,62 @@
-// The two tokens. What `drop` asks for is told of no token that a call hands out, so that no program that lets one go is
-// proved.
+// The tokens of the bookings. What `drop` asks for is told of no token that a call hands out, so that no program that
+// lets one go is proved.
 ghost use Rattle.std.specs.Prelude.{◌≡◌, true};
 
-mod holds;
-mod passages;
+use std::marker::PhantomData;
 
-// What its holder has of a booking that is held.
-pub struct Hold {
+pub mod kinds;
+
+pub use kinds::{Held, Kind, UnderWay};
+
+// What its holder has of a booking. `spent` is there for `drop` to ask for: a token without a `drop` cannot be let go
+// either, but then the compiler refuses the program and no proof is tried.
+pub struct Token<K> {
     pub(crate) number: u16,
     pub(crate) spent: bool,
+    pub(crate) kind: PhantomData<K>,
 }
 
-impl Drop for Hold {
+// The token of a booking that is held.
+pub type Hold = Token<Held>;
+
+// The token of a booking that is under way.
+pub type Passage = Token<UnderWay>;
+
+impl<K> Drop for Token<K> {
     fn drop(self)
         requires { self.spent ≡ true }
     {
-        let Hold {
+        let Token {
             number: _,
             spent: _,
+            kind: _,
         } = self;
     }
 }
 
-// What its holder has of a booking that is under way.
-pub struct Passage {
-    pub(crate) number: u16,
-    pub(crate) spent: bool,
-}
-
-impl Drop for Passage {
-    fn drop(self)
-        requires { self.spent ≡ true }
+impl<K> Token<K> {
+    pub(crate) fn new(number: u16) -> Token<K>
+        ensures { result.number ≡ number }
     {
-        let Passage {
-            number: _,
-            spent: _,
-        } = self;
+        Token {
+            number,
+            spent: false,
+            kind: PhantomData,
+        }
+    }
+
+    // The number of its booking.
+    pub fn number(&self) -> u16
+        ensures { result ≡ self.now.number }
+    {
+        self.number
+    }
+
+    pub(crate) fn spend(mut self) -> u16
+        ensures { result ≡ self.number }
+    {
+        let number = self.number;
+        self.spent = true;
+        number
     }
 }

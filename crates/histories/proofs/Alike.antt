@@ -3,8 +3,8 @@ use Rattle.std.proofs.Common.{◌≡◌, ℕ, ◌+◌, ltb, List, [], ◌∷◌,
 use lib.ListN.{length-map}
 use Rattle.std.specs.List.Sorted.{IsPermutation}
 use Rattle.std.proofs.lemmas.List.Sorted.{length_permutation, sum_by-IsPermutation}
-use Rattle.std.proofs.lemmas.List.Sums.{sum_by-cons}
-use Rattle.book.specs.Meaning.{Meaning, Shown, segments}
+use Rattle.std.proofs.lemmas.List.Sums.{sum_by-append, sum_by-cons}
+use Rattle.book.specs.Meaning.{Meaning, Shown, one, segments}
 use Rattle.book.specs.declared.legs.Leg.{Leg}
 use Rattle.book.proofs.Reserving.{same_meaning}
 use Rattle.search.specs.Routes.{legs_of}
@@ -14,7 +14,7 @@ use Rattle.bookings.specs.declared.states.Booking.{Booking}
 use Rattle.bookings.specs.declared.calls.Exchange.{Exchange}
 use Rattle.histories.specs.Promise.{Promise, SameAnswers, grants}
 use Rattle.histories.proofs.Answering.{before_same, outcome_unique}
-use Rattle.histories.proofs.Legs.{more_bars, more_shown, more_standing, often, often_append}
+use Rattle.histories.proofs.Legs.{more_bars, more_shown, more_standing, often}
 
 abbrev legs_of_each : List Booking → List (List Leg)
 legs_of_each bs = map (λ b. legs_of b.route) bs
@@ -23,7 +23,7 @@ legs_of_each bs = map (λ b. legs_of b.route) bs
 often_owed : (bs : List Booking) (i e : ℕ) → often (owed_legs bs) i e ≡ sum_by (λ ls. often ls i e) (legs_of_each bs)
 often_owed [] i e = refl
 often_owed (b ∷ bs) i e =
-    often_append (legs_of b.route) (owed_legs bs) i e
+    sum_by-append (λ l. one l i e) (legs_of b.route) (owed_legs bs)
     ∙ ap (λ n. often (legs_of b.route) i e + n) (often_owed bs i e)
     ∙ sym (sum_by-cons (λ ls. often ls i e) (legs_of b.route) (legs_of_each bs))
 

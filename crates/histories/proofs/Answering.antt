@@ -3,7 +3,7 @@ use Rattle.std.proofs.Common.{◌≡◌, ℕ, ◌+◌, ◌<◌, ◌≤◌, ltb, 
 use Rattle.std.proofs.lemmas.Bool.{lt-ltb}
 use Rattle.plan.specs.Limits.{most_legs, most_numbers}
 use Rattle.plan.specs.declared.refusals.Refusal.{Refusal}
-use Rattle.plan.specs.declared.refusals.Refusal.TheVariants.{NoWalk, TooManyLegs}
+use Rattle.plan.specs.declared.refusals.Refusal.TheVariants.{NoWalk}
 use Rattle.book.specs.Meaning.{Meaning, segments, total}
 use Rattle.book.specs.declared.legs.Leg.{Leg}
 use Rattle.search.specs.Finds as find
@@ -22,13 +22,6 @@ use Rattle.histories.specs.Courses.{Told}
 use Rattle.histories.specs.Promise.{Answered, EarliestWalk, outcome}
 
 -- ---- no answer is two
-
-ok_not_err : {A B : Type 0} (r : Result A B) (a : A) (b : B) → r ≡ Ok a → r ≡ Err b → ⊥
-ok_not_err r a b ok err = let both : Ok a ≡ Err b = sym ok ∙ err in let z : ◌≡◌ {A = ℕ} 0 1 = cc in omega arith
-
-no_walk_not_many : (x : Refusal) → x ≡ NoWalk → x ≡ TooManyLegs → ⊥
-no_walk_not_many x one other =
-    let both : NoWalk ≡ TooManyLegs = sym one ∙ other in let z : ◌≡◌ {A = ℕ} 0 1 = cc in omega arith
 
 hopeless_not_granted : (m : Meaning) (q : Request) (legs : List Leg) → find.Hopeless m q → find.Granted m q legs → ⊥
 hopeless_not_granted m q legs hopeless granted = hopeless (granted.arrival, legs, granted.walk)
@@ -53,8 +46,8 @@ module _ (m : Meaning) (bs : List Booking) (k : ℕ) (q : Request) (room : ℕ) 
   no_walk_outright a decided passes is =
       let refuses : Decided m bs k q room (Refused NoWalk) = subst (Decided m bs k q room) is decided in
       ⊎_elim
-      (λ early. absurd (ok_not_err _ _ _ passes early))
-      (λ late. ⊎_elim (λ none. none.0) (λ many. absurd (no_walk_not_many NoWalk refl many.3)) late.1)
+      (λ early. cc)
+      (λ late. ⊎_elim (λ none. none.0) (λ many. let same = many.3 in cc) late.1)
       refuses
 
   hopeless_outright : (a : Answer) → Decided m bs k q room a → before_search m (length bs) k q room ≡ Ok tt
@@ -63,7 +56,7 @@ module _ (m : Meaning) (bs : List Booking) (k : ℕ) (q : Request) (room : ℕ) 
       absurd (hopeless_not_granted m q (legs_of r) hopeless decided.1.granted)
   hopeless_outright (Refused x) decided passes hopeless =
       ⊎_elim
-      (λ early. absurd (ok_not_err _ _ _ passes early))
+      (λ early. cc)
       (λ late.
       ⊎_elim
       (λ none. ap (λ y. Refused y) none.1)
@@ -140,7 +133,7 @@ module _ (m : Meaning) (q : Request) where
       sym before ∙ subst (λ z. before_search m z k q room ≡ Ok tt) few one.1.passes in
       let refuses : Refuses m n j q space y = subst (λ z. Refuses m z j q space y) many other in
       ⊎_elim
-      (λ early. absurd (ok_not_err _ _ _ passes early))
+      (λ early. cc)
       (λ late. absurd (grant_not_refused (legs_of r) y one.1.granted one.1.fits late.1))
       refuses
   outcome_unique n k j room space bs cs (Refused x) (Granted h s) few many before one other =
@@ -148,7 +141,7 @@ module _ (m : Meaning) (q : Request) where
       before ∙ subst (λ z. before_search m z j q space ≡ Ok tt) many other.1.passes in
       let refuses : Refuses m n k q room x = subst (λ z. Refuses m z k q room x) few one in
       ⊎_elim
-      (λ early. absurd (ok_not_err _ _ _ passes early))
+      (λ early. cc)
       (λ late. absurd (grant_not_refused (legs_of s) x other.1.granted other.1.fits late.1))
       refuses
   outcome_unique n k j room space bs cs (Refused x) (Refused y) few many before one other =
@@ -159,11 +152,11 @@ module _ (m : Meaning) (q : Request) where
       (λ early.
       ⊎_elim
       (λ early'. let both : Err x ≡ Err y = sym early ∙ before ∙ early' in cc)
-      (λ late. absurd (ok_not_err _ _ _ (before ∙ late.0) early))
+      (λ late. let passes = before ∙ late.0 in cc)
       refuses')
       (λ late.
       ⊎_elim
-      (λ early. absurd (ok_not_err _ _ _ (sym before ∙ late.0) early))
+      (λ early. let passes = sym before ∙ late.0 in cc)
       (λ late'. search_refuses_unique x y late.1 late'.1)
       refuses')
       refuses in

@@ -19,12 +19,10 @@ use Rattle.bookings.specs.declared.calls.Exchange.{Exchange}
 use Rattle.bookings.specs.declared.register.Register.{Register}
 use Rattle.bookings.specs.declared.states.Act.{Act}
 use Rattle.bookings.specs.declared.states.Booking.{Booking}
-use Rattle.histories.specs.Courses.{Course, Going, Keeping, Made, Told}
+use Rattle.histories.specs.Courses.{Course, Going, Made, Recorded, Told}
 use Rattle.histories.specs.Promise.{Answered, Promise, grants}
-use Rattle.histories.specs.Tokens.{Matched, Numbered}
 use Rattle.histories.proofs.Answering.{answered_outright}
 use Rattle.histories.proofs.Loads.{within_after}
-use Rattle.histories.proofs.Numbers.{numbered_after}
 
 -- ---- one exchange more
 
@@ -149,42 +147,26 @@ going_none w m xs sound none same empty =
       course = λ i t. omega (arith, load_none (horizon w) (road w i).slots t);
     }
 
-pub keeping_none : (g : Register) (H P : ℕ → ℕ) → listed g ≡ [] → g.last ≡ 0 → g.withdrawn ≡ 0 → g.arrived ≡ 0
-    → ((n : ℕ) → H n ≡ 0) → ((n : ℕ) → P n ≡ 0) → Keeping g H P []
-keeping_none g H P none last withdrawn arrived holds passages = record {
-  owes = none;
-  numbers = last;
-  granted = last;
-  withdrawn = withdrawn;
-  arrived = arrived;
-  matched = subst (Matched H P) (sym none) record { held = λ n. sym (holds n); under_way = λ n. sym (passages n) };
-  numbered = subst (Numbered g.last) (sym none) record { given = tt; distinct = tt };
-}
-
 -- ---- from call to call
 
-module _ (m m' : Meaning) (g g' : Register) (H P H' P' : ℕ → ℕ) (xs : List Exchange) (x : Exchange)
-    (made : Made m g x.call x.answer m' g' H' P') (keeping : Keeping g H P xs) where
-  pub keeping_next : Keeping g' H' P' (xs ++ x ∷ [])
-  keeping_next =
+module _ (m m' : Meaning) (g g' : Register) (xs : List Exchange) (x : Exchange)
+    (made : Made m g x.call x.answer m' g') (recorded : Recorded g xs) where
+  pub recorded_next : Recorded g' (xs ++ x ∷ [])
+  recorded_next =
       let step = made.step in
       record {
-        owes = step.owes ∙ ap (after x.call x.answer) keeping.owes ∙ sym (owed_push [] xs x);
-        numbers = step.numbers ∙ ap (number_after x.answer) keeping.numbers ∙ sym (last_push 0 xs x);
+        owes = step.owes ∙ ap (after x.call x.answer) recorded.owes ∙ sym (owed_push [] xs x);
+        numbers = step.numbers ∙ ap (number_after x.answer) recorded.numbers ∙ sym (last_push 0 xs x);
         granted =
             omega (
               arith,
               step.numbers,
-              keeping.granted,
+              recorded.granted,
               grants_push xs x,
               number_counts m (listed g) g.last x.call x.answer step.answers,
             );
-        withdrawn = omega (arith, step.withdrawn, keeping.withdrawn, counted_push withdrawals xs x);
-        arrived = omega (arith, step.arrived, keeping.arrived, counted_push arrivals xs x);
-        matched = made.matched;
-        numbered =
-            subst₂ Numbered (sym step.numbers) (sym step.owes)
-            (numbered_after m g.last x.call x.answer (listed g) step.answers keeping.numbered);
+        withdrawn = omega (arith, step.withdrawn, recorded.withdrawn, counted_push withdrawals xs x);
+        arrived = omega (arith, step.arrived, recorded.arrived, counted_push arrivals xs x);
       }
 
   pub going_next : (w : Meaning) → Sound m → Going w m xs → Going w m' (xs ++ x ∷ [])
@@ -193,17 +175,17 @@ module _ (m m' : Meaning) (g g' : Register) (H P H' P' : ℕ → ℕ) (xs : List
       let bs = owed xs in
       let k = last_number 0 xs in
       let answers : Answers (over w bs) bs k x.call x.answer =
-      subst₃ (λ z y n. Answers z y n x.call x.answer) going.agrees keeping.owes keeping.numbers
+      subst₃ (λ z y n. Answers z y n x.call x.answer) going.agrees recorded.owes recorded.numbers
       step.answers in
       let within = within_after w bs k x.call x.answer (subst Sound going.agrees sound) answers
       (course_end w [] 0 xs going.course) in
       record {
         agrees =
-            step.agrees w (going.agrees ∙ ap (over w) (sym keeping.owes))
-            ∙ ap (over w) keeping_next.owes;
+            step.agrees w (going.agrees ∙ ap (over w) (sym recorded.owes))
+            ∙ ap (over w) recorded_next.owes;
         course =
             course_push w [] 0 xs x going.course answers
-            (subst (λ y. Told y x.call x.answer) keeping.owes made.told) within;
+            (subst (λ y. Told y x.call x.answer) recorded.owes made.told) within;
       }
 
 pub going_promise : (w m : Meaning) (xs : List Exchange) → Going w m xs → Promise w xs m

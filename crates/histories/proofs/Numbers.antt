@@ -1,15 +1,17 @@
 -- The numbers of the bookings owed: distinct, and none above the last one given.
-use Rattle.std.proofs.Common.{◌≡◌, ℕ, ◌+◌, ◌≤◌, true, false, eqb, ◌≢◌, List, [], ◌∷◌, ◌++◌, Some, None, Option, ⊎_elim, arith}
+use Rattle.std.proofs.Common.{◌≡◌, ℕ, ◌+◌, ◌≤◌, true, false, eqb, ◌≢◌, List, [], ◌∷◌, ◌++◌, Some, None, Option, sym, subst, subst₂, ⊎_elim, arith}
 use Rattle.std.specs.List.{AllByRecursion}
 use Rattle.std.proofs.ByRecursion.{All-push, All-weaker}
 use Rattle.std.proofs.lemmas.Bool.{cases_Bool}
 use Rattle.book.specs.Meaning.{Meaning}
 use Rattle.bookings.specs.Answers.{Answers}
 use Rattle.bookings.specs.Owed.{after, changed, done, moved, number_after, without}
+use Rattle.bookings.specs.Steps.{Step, listed}
 use Rattle.bookings.specs.declared.calls.Answer.{Answer}
 use Rattle.bookings.specs.declared.calls.Answer.TheVariants.{Done, Granted, NoToken, Refused}
 use Rattle.bookings.specs.declared.calls.Call.{Call}
 use Rattle.bookings.specs.declared.calls.Call.TheVariants as call
+use Rattle.bookings.specs.declared.register.Register.{Register}
 use Rattle.bookings.specs.declared.states.Booking.{Booking}
 use Rattle.bookings.specs.declared.states.State.{State}
 use Rattle.histories.specs.Tokens.{Distinct, Numbered}
@@ -83,10 +85,18 @@ numbered_done : (k : ℕ) (c : Call) (bs : List Booking) → Numbered k bs → N
 numbered_done k (call.Ask q room) bs numbered = numbered
 numbered_done k (call.Act act n) bs numbered = numbered_changed k _ n bs numbered
 
-pub numbered_after : (m : Meaning) (k : ℕ) (c : Call) (a : Answer) (bs : List Booking) → Answers m bs k c a
+numbered_after : (m : Meaning) (k : ℕ) (c : Call) (a : Answer) (bs : List Booking) → Answers m bs k c a
     → Numbered k bs → Numbered (number_after a k) (after c a bs)
 numbered_after m k (call.Ask q room) (Granted n r) bs answers numbered = numbered_push k bs _ answers.0 numbered
 numbered_after m k (call.Act act number) (Granted n r) bs answers numbered = absurd answers
 numbered_after m k c Done bs answers numbered = numbered_done k c bs numbered
 numbered_after m k c (Refused x) bs answers numbered = numbered
 numbered_after m k c NoToken bs answers numbered = numbered
+
+pub numbered_none : (k : ℕ) (bs : List Booking) → bs ≡ [] → Numbered k bs
+numbered_none k bs none = subst (Numbered k) (sym none) record { given = tt; distinct = tt }
+
+pub numbered_next : {m m' : Meaning} {g g' : Register} {c : Call} {a : Answer} → Step m g c a m' g'
+    → Numbered g.last (listed g) → Numbered g'.last (listed g')
+numbered_next {m} {m'} {g} {g'} {c} {a} step numbered =
+    subst₂ Numbered (sym step.numbers) (sym step.owes) (numbered_after m g.last c a (listed g) step.answers numbered)

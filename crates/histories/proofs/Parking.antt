@@ -1,24 +1,25 @@
 -- Parking the tokens that are out, until none is.
-use Rattle.std.proofs.Common.{◌≡◌, ℕ, ◌+◌, true, false, cond, eqb, List, [], ◌∷◌, ◌++◌, sym, refl, ap, ◌∙◌, ap₂, subst₂, ⊎_elim, arith}
-use Rattle.std.proofs.lemmas.Bool.{cases_Bool, eq-eqb, eqb-true}
+use Rattle.std.proofs.Common.{◌≡◌, ℕ, ◌+◌, true, cond, eqb, List, [], ◌∷◌, ◌++◌, Some, sym, refl, ap, ◌∙◌, ap₂, arith}
+use Rattle.std.proofs.lemmas.Bool.{eq-eqb, eqb-true}
+use Rattle.std.proofs.lemmas.Bool.Decides.{nat_tests}
 use Rattle.book.specs.Meaning.{Meaning}
 use Rattle.search.specs.Routes.{legs_of}
-use Rattle.bookings.specs.Owed.{bare, in_state, more, moved, over, owed, owed_legs, stands}
-use Rattle.bookings.specs.States.{code}
+use Rattle.bookings.specs.Owed.{bare, changed, in_state, more, moved, over, owed, owed_legs, stands}
+use Rattle.bookings.specs.States.{arrivals, code, leads_to, needed, withdrawals}
 use Rattle.bookings.specs.Steps.{Step, listed}
 use Rattle.bookings.specs.declared.calls.Answer.TheVariants.{Done}
-use Rattle.bookings.specs.declared.calls.Call.TheVariants.{Act}
+use Rattle.bookings.specs.declared.calls.Call.TheVariants as call
 use Rattle.bookings.specs.declared.calls.Exchange.{Exchange}
 use Rattle.bookings.specs.declared.register.Register.{Register}
-use Rattle.bookings.specs.declared.states.Act.TheVariants.{ParkHold, ParkPassage}
+use Rattle.bookings.specs.declared.states.Act.{Act}
 use Rattle.bookings.specs.declared.states.Booking.{Booking}
 use Rattle.bookings.specs.declared.states.State.{State}
 use Rattle.bookings.specs.declared.states.State.TheVariants.{Held, HeldParked, UnderWay, UnderWayParked}
 use Rattle.histories.specs.Courses.{Going}
 use Rattle.histories.specs.Parked.{AllParked, Parking, parked, parked_state}
-use Rattle.histories.specs.Tokens.{Matched, Numbered, hit, tally}
-use Rattle.histories.proofs.Numbers.{numbered_after}
-use Rattle.histories.proofs.Tallies.{matched_done}
+use Rattle.histories.specs.Tokens.{hit, tally}
+use Rattle.histories.proofs.Numbers.{numbered_next}
+use Rattle.histories.proofs.Tallies.{lands, matched_done}
 
 -- ---- states by their numbers
 
@@ -41,14 +42,7 @@ parked_moved : (n : ℕ) (s : State) (bs : List Booking) → stands n s bs ≡ t
     → parked (moved n (parked_state s) bs) ≡ parked bs
 parked_moved n s [] standing = refl
 parked_moved n s (b ∷ bs) standing =
-    ⊎_elim
-    (λ (t : eqb b.number n ≡ true).
-    let state : eqb (code b.state) (code s) ≡ true = simp t at standing in
-    simp t (ap (λ r. in_state b r ∷ parked bs) (twice s ∙ sym (parked_by_code b.state s state))))
-    (λ (f : eqb b.number n ≡ false).
-    let rest : stands n s bs ≡ true = simp f at standing in
-    simp f (ap (λ cs. in_state b (parked_state b.state) ∷ cs) (parked_moved n s bs rest)))
-    (cases_Bool (eqb b.number n))
+    grind (arith, nat_tests, standing, twice s, parked_by_code b.state s, parked_moved n s bs)
   where
     twice : (s : State) → parked_state (parked_state s) ≡ parked_state s
     twice Held = refl
@@ -76,52 +70,28 @@ parked_none (b ∷ bs) none others =
 
 -- ---- from token to token
 
-module _ (m m₁ m₂ : Meaning) (f g g' : Register) (H P H' P' : ℕ → ℕ) (n : ℕ) (parking : Parking m f m₁ g H P) where
-  pub hold_parked : Step m₁ g (Act ParkHold n) Done m₂ g' → ((k : ℕ) → H' k + hit Held k Held n ≡ H k)
-      → ((k : ℕ) → P' k ≡ P k) → Parking m f m₂ g' H' P'
-  hold_parked step holds passages = record {
-    same = ap parked step.owes ∙ parked_moved n Held (listed g) step.answers ∙ parking.same;
+-- an act that parks a token
+module _ (m m₁ m₂ : Meaning) (f g g' : Register) (H P H' P' : ℕ → ℕ) (n : ℕ) (act : Act) where
+  pub token_parked : leads_to act ≡ Some (parked_state (needed act)) → withdrawals act ≡ 0 → arrivals act ≡ 0
+      → Parking m f m₁ g H P → Step m₁ g (call.Act act n) Done m₂ g'
+      → ((k : ℕ) → H' k + hit Held k (needed act) n ≡ H k + lands Held k (leads_to act) n)
+      → ((k : ℕ) → P' k + hit UnderWay k (needed act) n ≡ P k + lands UnderWay k (leads_to act) n)
+      → Parking m f m₂ g' H' P'
+  token_parked parks no_withdrawal no_arrival parking step holds passages = record {
+    same =
+        ap parked (step.owes ∙ ap (λ s. changed s n (listed g)) parks)
+        ∙ parked_moved n (needed act) (listed g) step.answers
+        ∙ parking.same;
     last = step.numbers ∙ parking.last;
-    withdrawn = omega (arith, step.withdrawn, parking.withdrawn);
-    arrived = omega (arith, step.arrived, parking.arrived);
+    withdrawn = omega (arith, step.withdrawn, parking.withdrawn, no_withdrawal);
+    arrived = omega (arith, step.arrived, parking.arrived, no_arrival);
     agrees = λ w is. step.agrees w (parking.agrees w is);
     matched =
-        matched_done H P H' P' (listed g) (listed g') parking.matched ParkHold n step.answers step.owes
-        (λ k. omega (arith, holds k)) (λ k. omega (arith, passages k));
-    numbered =
-        subst₂ Numbered (sym step.numbers) (sym step.owes)
-        (numbered_after m₁ g.last (Act ParkHold n) Done (listed g) step.answers parking.numbered);
-  }
-
-  pub passage_parked : Step m₁ g (Act ParkPassage n) Done m₂ g' → ((k : ℕ) → H' k ≡ H k)
-      → ((k : ℕ) → P' k + hit UnderWay k UnderWay n ≡ P k) → Parking m f m₂ g' H' P'
-  passage_parked step holds passages = record {
-    same = ap parked step.owes ∙ parked_moved n UnderWay (listed g) step.answers ∙ parking.same;
-    last = step.numbers ∙ parking.last;
-    withdrawn = omega (arith, step.withdrawn, parking.withdrawn);
-    arrived = omega (arith, step.arrived, parking.arrived);
-    agrees = λ w is. step.agrees w (parking.agrees w is);
-    matched =
-        matched_done H P H' P' (listed g) (listed g') parking.matched ParkPassage n step.answers step.owes
-        (λ k. omega (arith, holds k)) (λ k. omega (arith, passages k));
-    numbered =
-        subst₂ Numbered (sym step.numbers) (sym step.owes)
-        (numbered_after m₁ g.last (Act ParkPassage n) Done (listed g) step.answers parking.numbered);
+        matched_done H P H' P' (listed g) (listed g') parking.matched act n step.answers step.owes holds passages;
+    numbered = numbered_next step parking.numbered;
   }
 
 -- ---- before and after
-
-pub none_parked : (m : Meaning) (f : Register) (H P : ℕ → ℕ) → Matched H P (listed f) → Numbered f.last (listed f)
-    → Parking m f m f H P
-none_parked m f H P matched numbered = record {
-  same = refl;
-  last = refl;
-  withdrawn = refl;
-  arrived = refl;
-  agrees = λ w is. is;
-  matched = matched;
-  numbered = numbered;
-}
 
 -- no token is out any more
 pub all_parked : (m m' : Meaning) (f g : Register) (H P : ℕ → ℕ) → Parking m f m' g H P → ((k : ℕ) → H k ≡ 0)

@@ -13,7 +13,6 @@ use Rattle.bookings.specs.declared.calls.Exchange.{Exchange}
 use Rattle.bookings.specs.declared.register.Register.{Register}
 use Rattle.bookings.specs.declared.states.Booking.{Booking}
 use Rattle.histories.specs.Promise.{act_answer, grants}
-use Rattle.histories.specs.Tokens.{Matched, Numbered}
 
 -- an act is done, refused or not made as the bookings have it
 abbrev pub Told : List Booking → Call → Answer → Type 0
@@ -29,25 +28,20 @@ Course w bs k (x ∷ xs) =
     × Told bs x.call x.answer
     × Course w (after x.call x.answer bs) (number_after x.answer k) xs
 
--- after the exchanges xs the register is g, and `holds n` and `passages n` tokens with number n are out
-pub record Keeping (g : Register) (holds passages : ℕ → ℕ) (xs : List Exchange) : Type 0 where
+-- after the exchanges xs the register is g
+pub record Recorded (g : Register) (xs : List Exchange) : Type 0 where
   pub owes : listed g ≡ owed xs
   pub numbers : g.last ≡ last_number 0 xs
   pub granted : g.last ≡ grants xs
   pub withdrawn : g.withdrawn ≡ all_counted withdrawals xs
   pub arrived : g.arrived ≡ all_counted arrivals xs
-  pub matched : Matched holds passages (listed g)
-  pub numbered : Numbered g.last (listed g)
 
 -- after them a book that began as w means m
 pub record Going (w m : Meaning) (xs : List Exchange) : Type 0 where
   pub agrees : m ≡ over w (owed xs)
   pub course : Course w [] 0 xs
 
--- one call: a step of the controller, after which the tokens out are again those of the bookings
-pub record Made
-    (m : Meaning) (g : Register) (c : Call) (a : Answer) (m' : Meaning) (g' : Register) (holds passages : ℕ → ℕ)
-    : Type 0 where
+-- one call: a step of the controller, and of an act the answer that the bookings have
+pub record Made (m : Meaning) (g : Register) (c : Call) (a : Answer) (m' : Meaning) (g' : Register) : Type 0 where
   pub step : Step m g c a m' g'
   pub told : Told (listed g) c a
-  pub matched : Matched holds passages (listed g')

@@ -1,6 +1,8 @@
 -- The numbers of bookings, and the tokens that are out for them.
 use Rattle.std.specs.Prelude.{◌≡◌, ℕ, ◌+◌, ◌≤◌, cond, ◌&&◌, ◌≢◌, List, [], ◌∷◌, ◌==◌}
-use Rattle.std.specs.List.{AllByRecursion}
+use Rattle.std.specs.Coded.{Unit-prop, le_prop, ×_prop}
+use Rattle.std.specs.List.{AllByRecursion, AllByRecursion-prop}
+use mathlib.Core.HLevel.{¬_prop}
 use Rattle.bookings.specs.States.{code}
 use Rattle.bookings.specs.declared.states.Booking.{Booking}
 use Rattle.bookings.specs.declared.states.State.{State}
@@ -17,6 +19,17 @@ Distinct (b ∷ bs) = AllByRecursion (λ c. c.number ≢ b.number) bs × Distinc
 pub record Numbered (k : ℕ) (bs : List Booking) : Type 0 where
   pub given : AllByRecursion (λ b. b.number ≤ k) bs
   pub distinct : Distinct bs
+
+-- which two facts have one proof at most
+Distinct-prop : (bs : List Booking) → IsProp (Distinct bs)
+Distinct-prop [] = Unit-prop
+Distinct-prop (b ∷ bs) = ×_prop (AllByRecursion-prop _ (λ c. ¬_prop) bs) (Distinct-prop bs)
+
+pub Numbered-prop : (k : ℕ) (bs : List Booking) → IsProp (Numbered k bs)
+Numbered-prop k bs p q =
+    let given = AllByRecursion-prop (λ b. b.number ≤ k) (λ b. le_prop) bs p.given q.given in
+    let distinct = Distinct-prop bs p.distinct q.distinct in
+    λ i. record { given = given i; distinct = distinct i }
 
 -- ---- tokens
 

@@ -1,24 +1,18 @@
 -- Lists of tokens, by the numbers of their bookings.
-use Rattle.std.specs.Prelude.{◌≡◌, ℕ, ◌+◌, cond, List, Some, None, sum_by, Option, ◌==◌}
+use Rattle.std.specs.Prelude.{◌≡◌, ℕ, ◌+◌, cond, List, Some, None, count_by, Option, ◌==◌}
+use Rattle.controller.specs.declared.tokens.Token.{Token}
 
--- 1 where the two numbers are the same
-abbrev pub same : ℕ → ℕ → ℕ
-same k n = cond (k == n) 1 0
+module _ {K : Type 0} where
+  -- how many of the tokens have the number n
+  unfoldable pub out : List (Token K) → ℕ → ℕ
+  out ts n = count_by (λ t. t.number == n) ts
 
--- how many of the tokens have the number n
-unfoldable pub out : {X : Type 0} → (X → ℕ) → List X → ℕ → ℕ
-out number xs n = sum_by (λ x. same (number x) n) xs
+  -- a token with the number n is taken out of ts
+  pub record TakenOut (ts : List (Token K)) (n : ℕ) (t : Token K) (us : List (Token K)) : Type 0 where
+    pub is : t.number ≡ n
+    pub left : (k : ℕ) → out us k + cond (n == k) 1 0 ≡ out ts k
 
--- a token with the number n is taken out of xs
-pub record TakenOut {X : Type 0} (number : X → ℕ) (xs : List X) (n : ℕ) (x : X) (ys : List X) : Type 0 where
-  pub is : number x ≡ n
-  pub left : (k : ℕ) → out number ys k + same n k ≡ out number xs k
-
--- or none has it, and all stay
-abbrev pub Taken : {X : Type 0} → (X → ℕ) → List X → ℕ → Option X → List X → Type 0
-Taken number xs n (Some x) ys = TakenOut number xs n x ys
-Taken number xs n None ys = (out number xs n ≡ 0) × (ys ≡ xs)
-
--- a token with the number n is put into xs
-abbrev pub Put : {X : Type 0} → (X → ℕ) → List X → ℕ → List X → Type 0
-Put number xs n ys = (k : ℕ) → out number ys k ≡ out number xs k + same n k
+  -- or none has it, and all stay
+  abbrev pub Taken : List (Token K) → ℕ → Option (Token K) → List (Token K) → Type 0
+  Taken ts n (Some t) us = TakenOut ts n t us
+  Taken ts n None us = (out ts n ≡ 0) × (us ≡ ts)

@@ -1,12 +1,11 @@
 // Lists of calls on two controllers side by side, over books of any two types.
 ghost use Rattle.std.specs.Prelude.{◌≡◌, [], ◌∷◌, ◌++◌, map, length, MatchResult};
 ghost use Rattle.bookings.specs.declared.calls.Call.TheVariants as call;
-ghost use Rattle.rehearsal.specs.Rehearsed.{BothRehearsed};
 ghost use Rattle.rehearsal.specs.Runs.{lent};
+ghost use Rattle.rehearsal.specs.Rehearsed.{BothRehearsed};
 
-use crate::playing::play;
-use crate::rehearsing::{Rehearsal, finish};
-use crate::run::starting::{give_up, start};
+use crate::rehearsing::Rehearsal;
+use crate::run::Run;
 use book::Book;
 use bookings::Call;
 use search::{Label, Request};
@@ -40,21 +39,22 @@ pub fn rehearse_both<A: Book, B: Book>(
         both.second.history.items)
         (λ back. (back.0 ≡ first) × (back.1 ≡ second)) }
 {
-    let mut one = match start(heap, first, calls.len() + 1) {
-        Ok(begun) => begun,
+    let mut one = match Run::start(heap, first, calls.len() + 1) {
+        Ok(run) => run,
+        // A closure for `map_err` would take the second book with it.
         Err(back) => return Err((back, second)),
     };
-    let mut two = match start(heap, second, others.len() + 1) {
-        Ok(begun) => begun,
-        Err(back) => return Err((give_up(one), back)),
+    let mut two = match Run::start(heap, second, others.len() + 1) {
+        Ok(run) => run,
+        Err(back) => return Err((one.into_book(), back)),
     };
     let last = [Call::Ask(request, scratch.len())];
-    play(&mut one, calls, scratch);
-    play(&mut one, &last, scratch);
-    play(&mut two, others, scratch);
-    play(&mut two, &last, scratch);
+    one.play(calls, scratch);
+    one.play(&last, scratch);
+    two.play(others, scratch);
+    two.play(&last, scratch);
     Ok(Both {
-        first: finish(one),
-        second: finish(two),
+        first: one.finish(),
+        second: two.finish(),
     })
 }

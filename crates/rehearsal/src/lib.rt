@@ -1,11 +1,8 @@
 // Lists of calls on controllers: on one, and on two side by side.
 #![tactic(auto)]
 
-mod acting;
 pub mod both;
-mod calling;
-mod parking;
-mod playing;
+mod caller;
 pub mod rehearsing;
 mod run;
 mod tokens;

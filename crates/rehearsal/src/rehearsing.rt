@@ -1,14 +1,9 @@
 // A list of calls on one controller.
 ghost use Rattle.std.specs.Prelude.{◌≡◌, map, length, MatchResult};
-ghost use Rattle.histories.specs.Courses.{Keeping};
-ghost use Rattle.histories.specs.Parked.{AllParked};
+ghost use Rattle.rehearsal.specs.Runs.{lent};
 ghost use Rattle.rehearsal.specs.Rehearsed.{Rehearsed};
-ghost use Rattle.rehearsal.specs.Runs.{holds_out, lent, passages_out};
 
-use crate::parking::park_all;
-use crate::playing::play;
 use crate::run::Run;
-use crate::run::starting::start;
 use book::Book;
 use bookings::{Call, Exchange};
 use controller::Controller;
@@ -37,31 +32,7 @@ pub fn rehearse<B: Book>(
         (B.Book.meaning done.controller.book) done.controller.register done.history.items)
         (λ back. back ≡ book) }
 {
-    match start(heap, book, calls.len()) {
-        Ok(mut begun) => {
-            play(&mut begun, calls, scratch);
-            Ok(finish(begun))
-        }
-        Err(back) => Err(back),
-    }
-}
-
-// Parks the tokens of a run.
-pub(crate) fn finish<B: Book>(run: Run<B>) -> Rehearsal<B>
-    requires { Keeping run.controller.register (holds_out run.tokens) (passages_out run.tokens)
-        run.history.items }
-    ensures parked { AllParked (B.Book.meaning run.controller.book) run.controller.register
-        (B.Book.meaning result.controller.book) result.controller.register }
-    ensures history { result.history ≡ run.history }
-{
-    let Run {
-        mut controller,
-        tokens,
-        history,
-    } = run;
-    park_all(&mut controller, tokens);
-    Rehearsal {
-        controller,
-        history,
-    }
+    let mut run = Run::start(heap, book, calls.len())?;
+    run.play(calls, scratch);
+    Ok(run.finish())
 }

@@ -1,13 +1,15 @@
-// The worked example's plan under a closure layer, over a grid book and over a leg book.
-use crate::example::{CLOSED, ROADS, SETTINGS};
-use book::Book;
-use bookings::{Act, Answer, Call, Exchange, State};
+// The worked example's plan under a closure layer, over a grid book and over a leg book. The layer is put over a book of
+// any type: of a function that makes it over a book that lends memory, a type with a `&mut` and a ghost field, there is
+// no proof yet.
+use book::{Book, Leg};
+use bookings::{Act, Answer, Call, Exchange};
 use grid_book::GridBook;
 use layers::ClosureLayer;
 use leg_book::{LegBook, LegRecord};
 use plan::Plan;
 use rehearsal::{rehearse, rehearse_both};
-use search::{Label, Request, Route};
+use search::{Label, Request};
+use search_cases::example::{CLOSED, ROADS, SETTINGS};
 use std::alloc::Global;
 use std::process::Abort;
 use std::rt::HostRuntime;
@@ -18,14 +20,12 @@ const NO_LABEL: Label = Label {
     junction: 0,
 };
 
-fn example(rt: &impl Abort, heap: Global) -> Result<Plan, Fail> {
-    let Ok(mut plan) = Plan::begin(heap, SETTINGS) else {
-        return Err(Fail::new("no plan"));
-    };
+fn example(heap: Global) -> Result<Plan, Fail> {
+    let mut plan = Plan::begin(heap, SETTINGS)?;
     for road in ROADS {
-        assert!(rt; plan.add_segment(road).is_ok());
+        plan.add_segment(road)?;
     }
-    assert!(rt; plan.add_closure(CLOSED).is_ok());
+    plan.add_closure(CLOSED)?;
     Ok(plan)
 }
 
@@ -41,31 +41,32 @@ fn ask(slot: u16, labels: usize) -> Call {
     Call::Ask(from_0_to_3(slot), labels)
 }
 
-// Whether the route has exactly these two legs.
-fn goes(route: &Route, first: (u16, u16), second: (u16, u16)) -> bool {
-    let legs = route.legs();
-    legs.len() == 2
-        && legs[0].segment == first.0
-        && legs[0].entry == first.1
-        && legs[1].segment == second.0
-        && legs[1].entry == second.1
+fn leg(segment: u16, entry: u16) -> Leg {
+    Leg { segment, entry }
 }
 
-fn granted(exchange: Exchange, number: u16, first: (u16, u16), second: (u16, u16)) -> bool {
+// Whether the number was granted, with exactly these legs.
+fn granted(exchange: Exchange, number: u16, legs: &[Leg]) -> bool {
     match exchange.answer {
-        Answer::Granted(given, route) => given == number && goes(&route, first, second),
+        Answer::Granted(given, route) => given == number && route.legs() == legs,
         _ => false,
     }
 }
 
-// 0 for an act that was done, 100 for one that was not made, the number of a refusal, and 200 for a grant.
-fn told(exchange: Exchange) -> u8 {
+// The number of a refusal.
+fn refused(exchange: Exchange) -> Option<u8> {
     match exchange.answer {
-        Answer::Granted(_, _) => 200,
-        Answer::Done => 0,
-        Answer::Refused(refusal) => refusal.number(),
-        Answer::NoToken => 100,
+        Answer::Refused(refusal) => Some(refusal.number()),
+        _ => None,
     }
+}
+
+fn done(exchange: Exchange) -> bool {
+    matches!(exchange.answer, Answer::Done)
+}
+
+fn not_made(exchange: Exchange) -> bool {
+    matches!(exchange.answer, Answer::NoToken)
 }
 
 // Three grants; 2 is confirmed and can then not be withdrawn; 1 is withdrawn, so that its route is granted again; a scratch with
@@ -94,38 +95,36 @@ fn mixed_list<B: Book + Drop>(
         Call::Act(Act::TakeUpHold, 3),
     ];
     let mut scratch = [NO_LABEL; 6];
-    let Ok(done) = rehearse(heap, ClosureLayer::new(bottom, plan), &calls, &mut scratch) else {
+    let Ok(rehearsal) = rehearse(heap, ClosureLayer::new(bottom, plan), &calls, &mut scratch) else {
         return Err(Fail::new("no memory"));
     };
-    let history = done.history.as_slice();
+    let history = rehearsal.history.as_slice();
     assert_eq!(rt; history.len(), 15);
-    assert!(rt; granted(history[0], 1, (0, 0), (1, 4)));
-    assert!(rt; granted(history[1], 2, (2, 0), (3, 5)));
-    assert!(rt; granted(history[2], 3, (0, 4), (1, 9)));
-    assert_eq!(rt; told(history[3]), 0);
-    assert_eq!(rt; told(history[4]), 0);
-    assert_eq!(rt; told(history[5]), 100);
-    assert_eq!(rt; told(history[6]), 14);
-    assert!(rt; granted(history[7], 4, (0, 0), (1, 4)));
-    assert_eq!(rt; told(history[8]), 17);
-    assert_eq!(rt; told(history[9]), 0);
-    assert_eq!(rt; told(history[10]), 100);
-    assert_eq!(rt; told(history[11]), 20);
-    assert_eq!(rt; told(history[12]), 0);
-    assert_eq!(rt; told(history[13]), 20);
-    assert_eq!(rt; told(history[14]), 0);
-    let tally = done.controller.tally();
+    assert!(rt; granted(history[0], 1, &[leg(0, 0), leg(1, 4)]));
+    assert!(rt; granted(history[1], 2, &[leg(2, 0), leg(3, 5)]));
+    assert!(rt; granted(history[2], 3, &[leg(0, 4), leg(1, 9)]));
+    assert!(rt; done(history[3]));
+    assert!(rt; done(history[4]));
+    assert!(rt; not_made(history[5]));
+    assert_eq!(rt; refused(history[6]), Some(14));
+    assert!(rt; granted(history[7], 4, &[leg(0, 0), leg(1, 4)]));
+    assert_eq!(rt; refused(history[8]), Some(17));
+    assert!(rt; done(history[9]));
+    assert!(rt; not_made(history[10]));
+    assert_eq!(rt; refused(history[11]), Some(20));
+    assert!(rt; done(history[12]));
+    assert_eq!(rt; refused(history[13]), Some(20));
+    assert!(rt; done(history[14]));
+    let tally = rehearsal.controller.tally();
     assert_eq!(rt; tally.granted, 4);
     assert_eq!(rt; tally.standing, 2);
     assert_eq!(rt; tally.withdrawn, 1);
     assert_eq!(rt; tally.arrived, 1);
-    let Some(timing) = done.controller.booking(3) else {
-        return Err(Fail::new("3 does not stand"));
-    };
+    let timing = rehearsal.controller.booking(3).ok_or("3 does not stand")?;
     assert_eq!(rt; timing.departure, 4);
     assert_eq!(rt; timing.arrival, 14);
     assert_eq!(rt; timing.legs, 2);
-    assert!(rt; done.controller.booking(2).is_none());
+    assert!(rt; rehearsal.controller.booking(2).is_none());
     Ok(())
 }
 
@@ -155,28 +154,28 @@ fn alike<A: Book + Drop, B: Book + Drop>(
     let second = both.second.history.as_slice();
     assert_eq!(rt; first.len(), 3);
     assert_eq!(rt; second.len(), 5);
-    assert!(rt; granted(first[2], 3, (0, 4), (1, 9)));
-    assert!(rt; granted(second[4], 4, (0, 4), (1, 9)));
+    assert!(rt; granted(first[2], 3, &[leg(0, 4), leg(1, 9)]));
+    assert!(rt; granted(second[4], 4, &[leg(0, 4), leg(1, 9)]));
     Ok(())
 }
 
 #[test]
 fn a_mixed_list_over_a_grid_book(rt: HostRuntime) -> Result<(), Fail> {
-    let plan = example(&rt, rt.alloc())?;
+    let plan = example(rt.alloc())?;
     let mut memory = [0u8; 80];
     mixed_list(&rt, rt.alloc(), GridBook::new(&plan, &mut memory), &plan)
 }
 
 #[test]
 fn a_mixed_list_over_a_leg_book(rt: HostRuntime) -> Result<(), Fail> {
-    let plan = example(&rt, rt.alloc())?;
+    let plan = example(rt.alloc())?;
     let mut memory = [LegRecord::unused(); 1024];
     mixed_list(&rt, rt.alloc(), LegBook::new(&plan, &mut memory), &plan)
 }
 
 #[test]
 fn duty_and_standby_answer_alike(rt: HostRuntime) -> Result<(), Fail> {
-    let plan = example(&rt, rt.alloc())?;
+    let plan = example(rt.alloc())?;
     let mut cells = [0u8; 80];
     let mut records = [LegRecord::unused(); 1024];
     alike(

@@ -12,29 +12,19 @@ impl Register {
     pub fn act(&mut self, number: u16, act: Act) -> Option<Route>
         ensures { Acted self.old act number result self.new }
     {
-        let place = self.place(number);
-        if place >= self.bookings.len() {
-            return None;
-        }
+        let place = self.place(number)?;
         let booking = self.bookings[place];
-        let Some(next) = next_state(booking.state, act) else {
-            return None;
-        };
-        match next {
-            Next::To(state) => {
-                self.bookings[place].state = state;
-                Some(booking.route)
-            }
+        match next_state(booking.state, act)? {
+            Next::To(state) => self.bookings[place].state = state,
             Next::Withdrawn => {
                 self.bookings.remove(place);
                 self.withdrawn += 1;
-                Some(booking.route)
             }
             Next::Arrived => {
                 self.bookings.remove(place);
                 self.arrived += 1;
-                Some(booking.route)
             }
         }
+        Some(booking.route)
     }
 }

@@ -1,6 +1,6 @@
 // Finding a booking by its number.
-ghost use Rattle.std.specs.Prelude.{◌≡◌};
-ghost use Rattle.bookings.specs.Registers.{first_with, place as first_place};
+ghost use Rattle.std.specs.Prelude.{◌≡◌, ◌==◌, position};
+ghost use Rattle.bookings.specs.Registers.{first_with};
 ghost use Rattle.bookings.specs.Steps.{listed};
 
 use super::Register;
@@ -14,23 +14,22 @@ impl Register {
         self.bookings.as_slice()
     }
 
-    // The place of the first booking with the number, or past the end.
-    pub(crate) fn place(&self, number: u16) -> usize
-        ensures { result ≡ first_place number (listed self.now) }
+    // The place of the first booking with the number.
+    pub(crate) fn place(&self, number: u16) -> Option<usize>
+        ensures { result ≡ position (λ b. b.number == number) (listed self.now) }
     {
-        let bookings = self.bookings();
-        for (i, booking) in bookings.iter().enumerate() {
-            if booking.number == number {
-                return i;
-            }
-        }
-        bookings.len()
+        self.bookings
+            .iter()
+            .position(|booking| booking.number == number)
     }
 
     // The first booking with the number.
     pub fn find(&self, number: u16) -> Option<Booking>
         ensures { result ≡ first_with number (listed self.now) }
     {
-        self.bookings.get(self.place(number)).copied()
+        self.bookings
+            .iter()
+            .find(|booking| booking.number == number)
+            .copied()
     }
 }

@@ -34,10 +34,8 @@ impl<B: Book> Controller<B> {
     pub fn leg(&self, number: u16, place: u16) -> Option<Leg>
         ensures { result ≡ slice_get (legs_by_number number (listed self.now.register)) place }
     {
-        match self.route(number) {
-            Some(route) => route.legs().get(place as usize).copied(),
-            None => None,
-        }
+        let route = self.route(number)?;
+        route.legs().get(place as usize).copied()
     }
 
     // When the booking with the number departs and arrives, and how many legs it has.
@@ -45,10 +43,8 @@ impl<B: Book> Controller<B> {
         ensures { result ≡ timing_of (B.Book.meaning self.now.book)
             (legs_by_number number (listed self.now.register)) }
     {
-        match self.route(number) {
-            Some(route) => self.timing(route),
-            None => None,
-        }
+        let route = self.route(number)?;
+        self.timing(route)
     }
 
     // How many bookings have been granted, and what became of them.

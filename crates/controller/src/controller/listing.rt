@@ -3,8 +3,8 @@ ghost use Rattle.bookings.specs.Steps.{listed};
 ghost use Rattle.controller.specs.Events.{Collected, ListsShift, events_of};
 
 use super::Controller;
-use crate::events::{Change, Event};
 use book::Book;
+use queue_client::event::Event;
 use queue_client::sort;
 
 impl<B: Book> Controller<B> {
@@ -21,7 +21,8 @@ impl<B: Book> Controller<B> {
         count
     }
 
-    // Puts the events into the first places of `shift`, in the order of the bookings.
+    // Puts the events into the first places of `shift`, in the order of the bookings. It counts them, since a record that
+    // is lent has no length of its own and no call allocates a list.
     fn collect_events(&self, shift: &mut [Event; 128]) -> usize
         ensures { Collected
             (events_of (B.Book.meaning self.now.book) (listed self.now.register))
@@ -30,16 +31,7 @@ impl<B: Book> Controller<B> {
         let mut count = 0;
         for booking in self.register.bookings() {
             if let Some(timing) = self.timing(booking.route) {
-                shift[count] = Event {
-                    slot: timing.departure as u32,
-                    change: Change::Departure,
-                    number: booking.number,
-                };
-                shift[count + 1] = Event {
-                    slot: timing.arrival,
-                    change: Change::End,
-                    number: booking.number,
-                };
+                shift[count..count + 2].copy_from_slice(&timing.events(booking.number));
                 count += 2;
             }
         }

@@ -1,5 +1,5 @@
 // Requests.
-ghost use Rattle.std.specs.Prelude.{◌≡◌, false, length, is_ok};
+ghost use Rattle.std.specs.Prelude.{◌≡◌, length, OnErr};
 ghost use Rattle.bookings.specs.Answers.{Decision};
 ghost use Rattle.bookings.specs.Steps.{listed};
 ghost use Rattle.controller.specs.Requested.{Requested, Untouched};
@@ -21,7 +21,7 @@ impl<B: Book> Controller<B> {
             (B.Book.meaning self.old.book) self.old.register
             request (length scratch.old) result
             (B.Book.meaning self.new.book) self.new.register }
-        ensures refused { is_ok result ≡ false → self.new ≡ self.old }
+        ensures refused { OnErr result (self.new ≡ self.old) }
         ensures untouched { Untouched
             (B.Book.meaning self.old.book) self.old.register
             request scratch.old scratch.new }
@@ -31,6 +31,7 @@ impl<B: Book> Controller<B> {
         reserve_all(&mut self.book, route.legs());
         Ok(Hold::new(number))
     }
+
     // The route that a request is granted. Nothing is changed but the scratch.
     fn decide(&self, request: Request, scratch: &mut [Label]) -> Result<Route, Refusal>
         ensures decision { Decision (B.Book.meaning self.now.book)

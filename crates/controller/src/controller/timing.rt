@@ -14,14 +14,12 @@ impl<B: Book> Controller<B> {
         ensures { result ≡ timing_of (B.Book.meaning self.now.book) (legs_of route) }
     {
         let legs = route.legs();
-        let count = legs.len();
-        if count == 0 {
-            return None;
-        }
+        let first = legs.first()?;
+        let last = legs.last()?;
         Some(Timing {
-            departure: legs[0].entry,
-            arrival: self.end_of(legs[count - 1]),
-            legs: count as u16,
+            departure: first.entry,
+            arrival: self.end_of(*last),
+            legs: legs.len() as u16,
         })
     }
 

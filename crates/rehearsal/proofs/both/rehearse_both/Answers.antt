@@ -6,18 +6,6 @@ use Rattle.rehearsal.proofs.CallLists.{calls_then}
 use Rattle.rehearsal.proofs.Finishing.{rehearsed}
 use Rattle.rehearsal.proofs.both.rehearse_both.Goals as goal
 
-pub play-requires-2 : goal.play-requires-2
-play-requires-2 g c = record {
-  room = c.play.ensures.room 1 c.in-Ok.ensures.4;
-  keeping = c.play.ensures.keeping;
-}
-
-pub play-requires-4 : goal.play-requires-4
-play-requires-4 g c = record {
-  room = c.play-3.ensures.room 1 c.in-Ok-start.ensures.4;
-  keeping = c.play-3.ensures.keeping;
-}
-
 pub returns : goal.returns
 returns g c =
     let n = length c.args.scratch.now in
@@ -29,23 +17,23 @@ returns g c =
     let second_labels = c.play.ensures.scratch in
     let third_labels = c.play-2.ensures.scratch ∙ second_labels in
     let first =
-    rehearsed w _ _ _ _ _ _ _ _ _ c.play-2.ensures.keeping c.finish.ensures.parked
+    rehearsed w _ _ _ _ _ _ _ c.play-2.new.self.recorded c.finish.ensures.parked
     (ap vec_items c.finish.ensures.history)
     (calls_then n n _ c.args.calls.now last _ _ _ (ap (map (λ x. x.call)) one.1) c.play.ensures.made
     c.play-2.ensures.made refl second_labels)
     (λ none.
     c.play-2.ensures.going w
     (c.play.ensures.going w
-    (going_none w _ _ (g.A.Book.sound c.args.first) none (ap g.A.Book.meaning one.0) one.1))) in
+    (going_none w _ _ (g.met.A.Book.sound c.args.first) none (ap g.A.Book.meaning one.0) one.1))) in
     let second =
-    rehearsed v _ _ _ _ _ _ _ _ _ c.play-4.ensures.keeping c.finish-2.ensures.parked
+    rehearsed v _ _ _ _ _ _ _ c.play-4.new.self.recorded c.finish-2.ensures.parked
     (ap vec_items c.finish-2.ensures.history)
     (calls_then n _ _ c.args.others.now last _ _ _ (ap (map (λ x. x.call)) two.1) c.play-3.ensures.made
     c.play-4.ensures.made third_labels (c.play-3.ensures.scratch ∙ third_labels))
     (λ none.
     c.play-4.ensures.going v
     (c.play-3.ensures.going v
-    (going_none v _ _ (g.B.Book.sound c.args.second) none (ap g.B.Book.meaning two.0) two.1))) in
+    (going_none v _ _ (g.met.B.Book.sound c.args.second) none (ap g.B.Book.meaning two.0) two.1))) in
     record {
       first = first;
       second = second;

@@ -1,13 +1,14 @@
-use Rattle.std.proofs.Common.{sym, ap, ◌∙◌}
-use Rattle.std.specs.List.{slice_get}
-use Rattle.plan.proofs.Asking.{item_nth}
-use Rattle.bookings.specs.Steps.{listed}
-use Rattle.bookings.proofs.Places.{first_at}
+use Rattle.std.proofs.Common.{◌==◌, ap, ◌∙◌, rules}
+use Rattle.std.proofs.lemmas.Iterator.{YieldsList-from_slice}
+use Rattle.std.proofs.lemmas.Iterator.Search.{find_from_yields_List}
+use Rattle.bookings.specs.Registers.{first_with}
+use Rattle.bookings.specs.declared.states.Booking.{Booking}
 use Rattle.bookings.proofs.register.Register.find.Goals as goal
+use borrow.Author.Tests.{tests}
 
 pub returns : goal.returns
 returns c =
-    let found = item_nth _ _ c.get.result c.get.ensures.lookup in
-    let items = ap (λ xs. slice_get xs c.place.result) c.deref.ensures.value in
-    let here = ap (slice_get (listed c.args.self.now)) c.place.ensures in
-    c.copied.ensures ∙ found ∙ items ∙ here ∙ sym (first_at c.args.number (listed c.args.self.now))
+    c.copied.ensures
+    ∙ find_from_yields_List (λ (b : Booking). b.number == c.args.number) _ _ c.find.result c.find.ensures.ran
+    (YieldsList-from_slice c.deref.result.now cc) (λ x b q k. search (rules, tests))
+    ∙ ap (first_with c.args.number) c.deref.ensures.value

@@ -1,14 +1,8 @@
-use Rattle.std.proofs.Common.{◌+◌, sym, ap, ◌∙◌, arith}
+use Rattle.std.proofs.Common.{sym, ap, ◌∙◌, arith}
 use Rattle.std.proofs.lemmas.List.{get_or_past}
 use Rattle.book.specs.Meaning.{Road, no_road}
-use Rattle.book.proofs.Segments.{segment_none, segment_some}
+use Rattle.book.proofs.Segments.{segment_none}
 use Rattle.controller.proofs.controller.Controller.end_of.Goals as goal
-
-pub returns-in-Some : goal.returns-in-Some
-returns-in-Some g c =
-    let m = g.B.Book.meaning c.args.self.now.book in
-    let known = segment_some m c.args.leg.segment _ (sym c.in-Some.is ∙ c.segment.ensures) in
-    ap (λ numbers. c.args.leg.entry + numbers.2) known.1
 
 pub returns-in-None : goal.returns-in-None
 returns-in-None g c =
