@@ -6,6 +6,7 @@ ghost use Rattle.bookings.specs.Reserving.{Reservable};
 
 use book::{Book, Leg};
 
+// Two functions, since what holds where each serves is not alike: one wants room for all legs, the other their presence.
 // Where the legs are all admissible, on different segments, and the book has room for them, all of them are reserved.
 pub fn reserve_all<B: Book>(book: &mut B, legs: &[Leg])
     ensures { Reservable (B.Book.meaning book.old) legs.now

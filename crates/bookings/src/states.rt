@@ -30,7 +30,7 @@ pub enum Next {
     Arrived,
 }
 
-// A route keeps junk in front of its first leg, so that equal bookings may differ there: no equality is derived.
+// What stands before the first leg of a route says nothing, so that equal bookings may differ there: no equality is derived.
 #[derive(Clone, Copy)]
 pub struct Booking {
     pub number: u16,

@@ -8,8 +8,8 @@ pub mod kinds;
 
 pub use kinds::{Held, Kind, UnderWay};
 
-// What its holder has of a booking. `spent` is there for `drop` to ask for: a token without a `drop` cannot be let go
-// either, but then the compiler refuses the program and no proof is tried.
+// What its holder has of a booking. `spent` is there for `drop` to ask for: that form is fixed, and a program that lets a
+// token go is to fail in the proof. Without a `drop` the compiler would refuse it before.
 pub struct Token<K> {
     pub(crate) number: u16,
     pub(crate) spent: bool,

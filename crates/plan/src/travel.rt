@@ -9,8 +9,8 @@ const CLASS_SPEEDS: [u16; 16] = [
     125, 250, 375, 500, 625, 750, 875, 1000, 1125, 1250, 1375, 1500, 1625, 1750, 1875, 2000,
 ];
 
-// The speed of a class in centimetres a second, 0 for a class that is none. An `Option` would be taken for 0 by each caller:
-// such a class has no travel slots, and the ranges refuse it.
+// The speed of a class in centimetres a second, 0 for a class that is none. Each caller would take none for 0, and the ranges
+// refuse such a class.
 pub fn class_speed(class: u8) -> u16
     ensures value { result ≡ speed class }
     ensures bound { result ≤ 2000 }

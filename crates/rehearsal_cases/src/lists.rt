@@ -1,6 +1,5 @@
 // The worked example's plan under a closure layer, over a grid book and over a leg book. The layer is put over a book of
-// any type: of a function that makes it over a book that lends memory, a type with a `&mut` and a ghost field, there is
-// no proof yet.
+// any type: the borrow checker covers no type argument that holds a `&mut` and a struct with a ghost field.
 use book::{Book, Leg};
 use bookings::{Act, Answer, Call, Exchange};
 use grid_book::GridBook;
@@ -20,6 +19,7 @@ const NO_LABEL: Label = Label {
     junction: 0,
 };
 
+// As the tests of the search have it: a shared one would be a public function with a contract of its own.
 fn example(heap: Global) -> Result<Plan, Fail> {
     let mut plan = Plan::begin(heap, SETTINGS)?;
     for road in ROADS {

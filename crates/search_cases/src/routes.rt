@@ -15,6 +15,7 @@ const NO_LABEL: Label = Label {
     junction: 9,
 };
 
+// The tests of rehearsals have it too: a shared one would be a public function with a contract of its own.
 fn example(rt: &impl Abort, heap: Global) -> Result<Plan, Fail> {
     let Ok(mut plan) = Plan::begin(heap, SETTINGS) else {
         return Err(Fail::new("no plan"));
@@ -53,8 +54,8 @@ fn leg(segment: u16, entry: u16) -> Leg {
     Leg { segment, entry }
 }
 
-// A layer over a book with lent memory is made where that book is a type parameter, here and below: the check covers no type
-// argument that holds a `&mut` and a struct with a ghost field.
+// A layer over a book with lent memory is made where that book is a type parameter, here and below: the borrow checker
+// covers no type argument that holds a `&mut` and a struct with a ghost field.
 fn worked_example<B: Book + Drop>(rt: &impl Abort, bottom: B, plan: &Plan) {
     let mut book = ClosureLayer::new(bottom, plan);
     let first = grant(&mut book, ask(0, 3, 0));

@@ -156,6 +156,7 @@ pub(crate) fn settings_of(section: &[u8]) -> Settings
             horizon: u16::from_be_bytes([*horizon_high, *horizon_low]),
             junctions: *junctions as u16,
         },
+        // The caller shows that there are seven.
         _ => unreachable(),
     }
 }

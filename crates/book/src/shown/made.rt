@@ -56,7 +56,7 @@ impl ShownPlan {
         }
     }
 
-    // The four numbers as a tuple, which is how a book answers them.
+    // The four numbers as a tuple: the form of that question of a book is fixed.
     pub fn segment(&self, segment: u16) -> Option<(u16, u16, u8, u8)>
         ensures { result ≡ option_map four (slice_get (shown_of self.now).roads segment) }
     {

@@ -1,4 +1,5 @@
-// The acts that take a token. A refused one changes nothing, and the token comes back.
+// The acts that take a token. A refused one changes nothing, and the token comes back: each call promises that by itself, so
+// the clause stands at each.
 ghost use Rattle.std.specs.Prelude.{◌≡◌, IfErr, MatchResult, OnErr};
 ghost use Rattle.bookings.specs.declared.calls.Call.TheVariants as call;
 ghost use Rattle.bookings.specs.declared.states.Act.TheVariants as act;

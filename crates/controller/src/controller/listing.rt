@@ -21,8 +21,8 @@ impl<B: Book> Controller<B> {
         count
     }
 
-    // Puts the events into the first places of `shift`, in the order of the bookings. It counts them, since a record that
-    // is lent has no length of its own and no call allocates a list.
+    // Puts the events into the first places of `shift`, in the order of the bookings. It counts them: that a record of 128 is
+    // filled and their count answered is a fixed form.
     fn collect_events(&self, shift: &mut [Event; 128]) -> usize
         ensures { Collected
             (events_of (B.Book.meaning self.now.book) (listed self.now.register))

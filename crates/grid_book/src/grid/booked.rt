@@ -117,7 +117,8 @@ impl<'a> Rows for GridBook<'a> {
     }
 }
 
-// What is the same in both bottom books stands in `ShownPlan` and `rows`; the calls here only name it.
+// What both bottom books answer alike stands in `ShownPlan` and `rows`, and is named here: one impl for all that have rows
+// would leave none for layers.
 impl<'a> Book for GridBook<'a> {
     ghost meaning = { grid_of };
 

@@ -108,7 +108,8 @@ impl<'a> Rows for LegBook<'a> {
     }
 }
 
-// What is the same in both bottom books stands in `ShownPlan` and `rows`; the calls here only name it.
+// What both bottom books answer alike stands in `ShownPlan` and `rows`, and is named here: one impl for all that have rows
+// would leave none for layers.
 impl<'a> Book for LegBook<'a> {
     ghost meaning = { legs_of };
 

@@ -1,16 +1,10 @@
 use Rattle.std.proofs.Common.{◌≡◌, ℕ, ◌-◌, sym, ap, ◌∙◌, ap₂, arith}
 use Rattle.book.specs.Loads.{load}
-use Rattle.book.specs.Meaning.{horizon, road}
+use Rattle.book.specs.Meaning.{road}
 use Rattle.book.specs.Rooms.{room_below}
 use Rattle.book.proofs.Rooming.{room_fails, room_held, room_more, room_none}
 use Rattle.book.proofs.Segments.{segment_some}
 use Rattle.book.proofs.rooms.has_room_held_back.Goals as goal
-
-pub new-window-requires : goal.new-window-requires
-new-window-requires g c =
-    let m = g.B.Book.meaning c.args.book.now in
-    let found = segment_some m c.args.leg.segment _ c.in-Some.ensures in
-    record { known = found.0; travel = ap (λ (q : ℕ × ℕ × ℕ × ℕ). q.2) found.1 }
 
 pub loop-init : goal.loop-init
 loop-init g c = record {
@@ -37,13 +31,6 @@ returns-then-window-limit g c =
     sym (room_held c.args.held m l known
     ∙ room_fails m l ((road m l.segment).count - c.args.held) (road m l.segment).slots c.loop.counter (omega (arith, slots))
     (omega (arith, loaded, count)))
-
-pub advance-requires : goal.advance-requires
-advance-requires g c =
-    let m = g.B.Book.meaning c.args.book.now in
-    let at = c.loop.invariant in
-    let same = ap (λ b. horizon (g.B.Book.meaning b)) at.book in
-    omega (arith, same, at.slot, ap (λ s. s.horizon) c.sizes.ensures)
 
 pub loop-preserved : goal.loop-preserved
 loop-preserved g c =

@@ -1,6 +1,4 @@
-use Rattle.std.proofs.Common.{ap, ◌∙◌, rules}
-use Rattle.std.proofs.lemmas.List.{drop_all}
-use Rattle.bookings.specs.Owed.{more}
+use Rattle.std.proofs.Common.{rules}
 use Rattle.bookings.proofs.Reserving.{free_next}
 use Rattle.bookings.proofs.legs.free_all.Goals as goal
 
@@ -8,6 +6,3 @@ pub loop-leg-preserved : goal.loop-leg-preserved
 loop-leg-preserved g c rest start =
     free_next rest _ _ c.args.legs.now c.loop-leg.leg-index _ c.loop-leg-test.true (search rules)
     c.free.result c.free.ensures.does (c.loop-leg.invariant rest start)
-
-pub returns : goal.returns
-returns g c rest start = c.loop-leg.invariant rest start ∙ ap (more rest) (drop_all _ _ c.loop-leg-test.false)

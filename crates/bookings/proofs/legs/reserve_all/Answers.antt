@@ -1,6 +1,4 @@
-use Rattle.std.proofs.Common.{ap, ◌∙◌, rules}
-use Rattle.std.proofs.lemmas.List.{take_all}
-use Rattle.bookings.specs.Owed.{more}
+use Rattle.std.proofs.Common.{rules}
 use Rattle.bookings.proofs.Reserving.{reserve_next}
 use Rattle.bookings.proofs.legs.reserve_all.Goals as goal
 
@@ -8,6 +6,3 @@ pub loop-leg-preserved : goal.loop-leg-preserved
 loop-leg-preserved g c ok =
     reserve_next _ _ _ c.args.legs.now c.loop-leg.leg-index _ c.loop-leg-test.true (search rules)
     c.reserve.result c.reserve.ensures.does ok (c.loop-leg.invariant ok)
-
-pub returns : goal.returns
-returns g c ok = c.loop-leg.invariant ok ∙ ap (more _) (take_all _ _ c.loop-leg-test.false)

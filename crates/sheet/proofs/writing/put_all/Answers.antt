@@ -1,17 +1,11 @@
 use Rattle.std.proofs.Common.{◌+◌, length, ap, ◌∙◌, arith}
 use Rattle.sheet.specs.Records.{written}
 use Rattle.sheet.specs.Writes.{over}
-use Rattle.sheet.proofs.Overlays.{laying_all, laying_next, laying_none, laying_room}
+use Rattle.sheet.proofs.Overlays.{laying_next, laying_none, laying_room}
 use Rattle.sheet.proofs.writing.put_all.Goals as goal
 
 pub loop-record-init : goal.loop-record-init
 loop-record-init g c = laying_none (written g.R.Record.layout) c.args.records.now c.args.memory.now c.args.start
-
-pub bytes-requires : goal.bytes-requires
-bytes-requires g c = let small = g.met.R.Record.small in omega arith
-
-pub shared_whole_as_slice-put : goal.shared_whole_as_slice-put
-shared_whole_as_slice-put g c = let small = g.met.R.Record.small in omega arith
 
 pub put-place-requires : goal.put-place-requires
 put-place-requires g c =
@@ -29,7 +23,3 @@ loop-record-preserved g c =
     laying_next item (omega arith) c.requires loop.invariant
     (c.put-place.ensures.written ∙ ap (over loop.memory loop.place) same)
     (c.put-place.ensures.behind ∙ ap (λ bytes. loop.place + length bytes) same)
-
-pub returns : goal.returns
-returns g c =
-    let all = laying_all (omega arith) c.loop-record.invariant in record { written = all.0; behind = all.1 }

@@ -1,5 +1,5 @@
 use Rattle.std.proofs.Common.{◌≡◌, ℕ, zero, suc, ◌+◌, ◌-◌, ◌<◌, ◌≤◌, List, length, get_or, take, drop, sum, sym, ap, ◌∙◌, add-one, arith}
-use Rattle.std.proofs.lemmas.List.{get_or-drop, length-drop, length-take}
+use Rattle.std.proofs.lemmas.List.{get_or-drop, length-drop}
 use Rattle.std.proofs.lemmas.List.Sums.{sum_by_more}
 use Rattle.book.specs.Loads.{load_below}
 use Rattle.book.specs.Rows.{entering}
@@ -36,8 +36,3 @@ returns-clause-value c =
     (none_entered row u first t (omega (arith, c.min-first.ensures)))
     (omega (arith, c.requires.by_then)) (omega (arith, c.requires.within))
     ∙ ap (λ k. load_below k (entering row) u t) end
-
-pub returns-clause-bound : goal.returns-clause-bound
-returns-clause-bound c =
-    let first = c.min-first.result in
-    omega (arith, c.total.ensures.bound, length-take (c.args.end - first) (drop first c.args.self.now.entering.now))

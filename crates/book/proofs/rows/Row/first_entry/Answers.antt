@@ -32,10 +32,6 @@ loop-slot-init c = (
   open_yet _ _ _ _,
 )
 
-pub overflow_add-load : goal.overflow_add-load
-overflow_add-load c =
-    record { fits = omega (arith, c.loop-slot.invariant.1, c.min-end.ensures) }
-
 pub returns-then-first-travel : goal.returns-then-first-travel
 returns-then-first-travel c some =
     let row = c.args.self.now.entering.now in

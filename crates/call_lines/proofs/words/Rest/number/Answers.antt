@@ -1,6 +1,6 @@
 use Rattle.std.proofs.Common.{◌+◌, ap, ◌∙◌}
 use Rattle.call_lines.specs.Stops.{Takes}
-use Rattle.call_lines.proofs.Reading.{handed, no_digit, taken, too_large}
+use Rattle.call_lines.proofs.Reading.{handed, no_digit, too_large}
 use Rattle.call_lines.proofs.words.Rest.number.Goals as goal
 
 pub returns-in_err-rest : goal.returns-in_err-rest
@@ -18,8 +18,3 @@ returns-in_err-number c =
     handed (Takes _ _) _ c.from_residual-in_err-number.ensures.1
     (too_large _ _ c.in_ok-rest.rest c.in_ok-rest.ensures c.in-Digits.digits.now _ value.0 word.1
     (value.1 ∙ ap (λ k. k + value.0) word.0) value.2)
-
-pub returns : goal.returns
-returns c =
-    taken _ _ c.in_ok-rest.rest c.in_ok-rest.ensures c.in-Digits.digits.now c.in_ok-number.number c.behind.result
-    c.in-Digits.ensures.1 c.in_ok-number.ensures c.behind.ensures.bytes c.behind.ensures.column

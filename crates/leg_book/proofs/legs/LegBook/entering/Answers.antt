@@ -1,5 +1,5 @@
 use Rattle.std.proofs.Common.{◌+◌, ◌<◌, length, get_or, take, set, sym, refl, ap, ap₂, ◌∙◌, inl, inr, ⊎_elim, arith, length-set}
-use Rattle.std.proofs.lemmas.List.{get_or-replicate, get_or-set_other, get_or-set_same, take_all}
+use Rattle.std.proofs.lemmas.List.{get_or-replicate, get_or-set_other, get_or-set_same}
 use Rattle.std.proofs.lemmas.Bool.{cases_eq}
 use Rattle.plan.specs.Limits.{most_slots}
 use Rattle.book.proofs.Reserving.{one_here}
@@ -81,13 +81,3 @@ loop-record-preserved c =
             ap (λ xs. get_or xs e 0) w.table-is ∙ each e below ∙ sym (count_same rs k within i w.in_default.is e);
       }
     ]
-
-pub returns : goal.returns
-returns c =
-    let rs = c.in_ok-part.part.now in (
-      c.in_ok-part.ensures.1,
-      c.loop-record.invariant.long,
-      λ e below.
-          c.loop-record.invariant.counts e below
-          ∙ ap (λ rs. count_at rs c.args.segment e) (take_all _ _ c.loop-record-test.false ∙ c.in_ok-part.ensures.0),
-    )

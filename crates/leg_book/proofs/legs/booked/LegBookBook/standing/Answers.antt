@@ -1,8 +1,6 @@
 use Rattle.std.proofs.Common.{sym, ap, ◌∙◌, arith}
-use Rattle.std.proofs.lemmas.Bool.{lt-leb}
-use Rattle.book.proofs.Bottoms.{shut_stands}
 use Rattle.book.specs.ShownPlan.{shown_of}
-use Rattle.leg_book.specs.Records.{count_at, part_used, suffices}
+use Rattle.leg_book.specs.Records.{count_at}
 use Rattle.leg_book.proofs.Stores.{stands}
 use Rattle.leg_book.proofs.legs.booked.LegBookBook.standing.Goals as goal
 
@@ -14,12 +12,6 @@ overflow_cast-result c =
     let small = b.small part.1 l.segment l.entry in
     let same = ap (λ rs. count_at rs l.segment l.entry) part.0 in
     record { fits = omega (arith, c.count_of.ensures, same, small) }
-
-pub returns-in_default : goal.returns-in_default
-returns-in_default c =
-    let b = c.args.self.now in
-    sym (shut_stands (shown_of b.plan) (suffices b.records.now) (count_at (part_used b.records.now)) c.args.leg.segment
-    (lt-leb _ _ c.in_default.ensures) c.args.leg.entry)
 
 pub returns : goal.returns
 returns c =
