@@ -1,27 +1,33 @@
 // The start of a file.
-ghost use Rattle.std.specs.Prelude.{◌≤◌, IfOk, vec_len};
+ghost use Rattle.std.specs.Prelude.{◌≤◌, length, IfOk};
 
 use std::io::{ErrorKind, Read};
 use std::rt::Files;
 use std::{fs, io};
 
-// At most so many bytes of what the file begins with, and none where the file is absent.
-pub(crate) fn read_start<R: Files + Alloc>(
+// What the file begins with, read into the memory that is lent: as many bytes as that has, or fewer where the file has fewer, and
+// none where the file is absent. It wants no memory beside that, so that no sheet is kept from its refusal for want of memory.
+pub(crate) fn read_start<'m, R: Files>(
     rt: &R,
     path: &str,
-    most: usize,
-) -> io::Result<Vec<u8, R::A>>
-    ensures { IfOk result (λ bytes. vec_len bytes ≤ most) }
+    memory: &'m mut [u8],
+) -> io::Result<&'m [u8]>
+    ensures { IfOk result (λ bytes. length bytes.now ≤ length memory.old) }
 {
-    let mut bytes = Vec::new(rt.alloc());
+    let mut count = 0usize;
     match fs::open(rt, path) {
         Ok(file) => {
-            file.take(most as u64).read_to_end(&mut bytes)?;
-            // No clause of `read_to_end` says that a `Take` of a file keeps to its limit.
-            bytes.truncate(most);
-            Ok(bytes)
+            let mut file = file;
+            for _ in 0..memory.len() {
+                let more = file.read(&mut memory[count..])?;
+                if more == 0 {
+                    break;
+                }
+                count += more;
+            }
         }
-        Err(error) if error.kind() == ErrorKind::NotFound => Ok(bytes),
-        Err(error) => Err(error),
+        Err(error) if error.kind() == ErrorKind::NotFound => {}
+        Err(error) => return Err(error),
     }
+    Ok(&memory[..count])
 }

@@ -13,8 +13,9 @@ use report::{print_fault, print_plan};
 const MOST_BYTES: usize = 1024;
 
 fn run(rt: &HostRuntime) -> anyhow::Result<()> {
-    let bytes = read_start(rt, "plan.bin", MOST_BYTES)?;
-    match sheet::read(rt.alloc(), &bytes) {
+    let mut memory = [0u8; MOST_BYTES];
+    let bytes = read_start(rt, "plan.bin", &mut memory)?;
+    match sheet::read(rt.alloc(), bytes) {
         Ok(plan) => print_plan(rt, &plan, bytes.len())?,
         Err(PlanError::Refused(fault)) => print_fault(rt, fault)?,
         Err(PlanError::NoMemory) => return Err(anyhow!("no memory for the plan")),
