@@ -59,8 +59,9 @@ pub trait Book {
             .sum()
     }
 
-    // Whether the leg is admissible once each critical count is lowered by `held`. It asks the loads one by one:
-    // `rooms::has_room_held_back` cannot be called here, as a trait's own bodies give less than a bound of it asks.
+    // Whether the leg is admissible once each critical count is lowered by `held`. The load of the entry slot is asked, and that of
+    // each next slot follows from the legs that enter and leave. `rooms::has_room_held_back` goes so too, but cannot be called
+    // here, as a trait's own bodies give less than a bound of it asks.
     fn admissible_held_back(&self, leg: Leg, held: u8) -> bool
         ensures { result ≡ admits (held_back held (meaning self.now)) leg }
     {
@@ -71,7 +72,18 @@ pub trait Book {
             return false;
         };
         let limit = count.saturating_sub(held) as u32;
-        (leg.entry..leg.entry + slots as u16).all(|slot| self.load(leg.segment, slot) < limit)
+        let mut load = self.load(leg.segment, leg.entry);
+        for slot in leg.entry..leg.entry + slots as u16 {
+            if load >= limit {
+                return false;
+            }
+            let next = slot + 1;
+            load += self.standing(Leg { entry: next, ..leg }) as u32;
+            if let Some(gone) = next.checked_sub(slots as u16) {
+                load -= self.standing(Leg { entry: gone, ..leg }) as u32;
+            }
+        }
+        true
     }
 
     // The smallest entry from the slot `from` on that is admissible once each critical count is lowered by `held`.

@@ -124,6 +124,10 @@ impl<'a> Book for LegBook<'a> {
     }
 
     fn standing(&self, leg: Leg) -> u16 {
+        let sizes = self.sizes();
+        if leg.segment >= sizes.segments || leg.entry >= sizes.horizon {
+            return 0;
+        }
         let Some(part) = self.part() else {
             return 0;
         };
@@ -141,6 +145,10 @@ impl<'a> Book for LegBook<'a> {
     fn reserve(&mut self, leg: Leg) -> Result<(), Refusal> {
         if !self.admissible(leg) {
             return Err(Refusal::LegNotAdmissible);
+        }
+        // A full book is told by the count alone, without a pass over the records.
+        if self.count >= MOST_LEGS {
+            return Err(Refusal::LegsFull);
         }
         let place = self.find(None).ok_or(Refusal::LegsFull)?;
         self.records[place].leg = Some(leg);
