@@ -9,9 +9,8 @@ use Rattle.bookings.specs.declared.states.Booking.{Booking}
 use Rattle.queue.specs.declared.Full.{Full}
 use Rattle.queue_client.specs.Sort.{Sorted, Unsorted}
 use Rattle.search.specs.Routes.{legs_of}
-use Rattle.controller.specs.Events.{Collected, ListsShift, event_before, events_of, two_events}
+use Rattle.controller.specs.Events.{Collected, Event, ListsShift, event_before, events_of, two_events}
 use Rattle.controller.specs.Timings.{timing_of}
-use Rattle.queue_client.specs.declared.event.Event.{Event}
 use Rattle.controller.specs.declared.timings.Timing.{Timing}
 use borrow.Rule.Slice.PartMut.{put_mid, same_len_mid}
 

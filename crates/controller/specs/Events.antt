@@ -3,9 +3,8 @@ use Rattle.std.specs.Prelude.{◌≡◌, ℕ, ◌≤◌, List, [], ◌∷◌, �
 use Rattle.std.specs.List.Sorted.{IsSortedWithin, IsPermutation}
 use Rattle.book.specs.Meaning.{Meaning}
 use Rattle.bookings.specs.declared.states.Booking.{Booking}
-pub use Rattle.queue_client.specs.Kinds.{event_before}
+pub use Rattle.queue_client.specs.Kinds.{Event, event_before}
 use Rattle.queue_client.specs.declared.event.Change.TheVariants.{Departure, End}
-use Rattle.queue_client.specs.declared.event.Event.{Event}
 use Rattle.search.specs.Routes.{legs_of}
 use Rattle.controller.specs.Timings.{timing_of}
 use Rattle.controller.specs.declared.timings.Timing.{Timing}

@@ -2,10 +2,11 @@
 #![tactic(auto)]
 
 pub mod controller;
+pub mod events;
 pub mod timings;
 pub mod tokens;
 
 pub use controller::Controller;
-pub use queue_client::event::{Change, Event};
+pub use events::{Change, Event};
 pub use timings::Timing;
 pub use tokens::{Held, Hold, Kind, Passage, Token, UnderWay};

@@ -2,7 +2,7 @@
 ghost use Rattle.std.specs.Prelude.{◌≡◌, Some};
 ghost use Rattle.controller.specs.Events.{two_events};
 
-use queue_client::event::{Change, Event};
+use crate::events::{Change, Event};
 
 // The entry of the first leg, the slot at which the last one ends, and how many legs there are. The arrival has room
 // for every sum of an entry and travel slots.

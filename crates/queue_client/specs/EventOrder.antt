@@ -1,10 +1,9 @@
 -- Events with the same key are the same, which the law of their order asks for.
 use Rattle.std.specs.Prelude.{◌≡◌, ℕ, refl}
 use Rattle.std.proofs.Common.{arith}
-use Rattle.queue_client.specs.Kinds.{rank}
+use Rattle.queue_client.specs.Kinds.{Event, rank}
 use Rattle.queue_client.specs.declared.event.Change.{Change}
 use Rattle.queue_client.specs.declared.event.Change.TheVariants.{End, Departure}
-use Rattle.queue_client.specs.declared.event.Event.{Event}
 
 pub change_from_rank : (a b : Change) → rank a ≡ rank b → a ≡ b
 change_from_rank End End same = refl

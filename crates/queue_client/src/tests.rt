@@ -7,7 +7,7 @@ fn label(slot: u16, junction: u16) -> Label {
     Label { slot, junction }
 }
 
-fn event(slot: u32, change: Change, number: u16) -> Event {
+fn event(slot: u16, change: Change, number: u16) -> Event {
     Event {
         slot,
         change,

@@ -3,8 +3,8 @@ ghost use Rattle.bookings.specs.Steps.{listed};
 ghost use Rattle.controller.specs.Events.{Collected, ListsShift, events_of};
 
 use super::Controller;
+use crate::events::Event;
 use book::Book;
-use queue_client::event::Event;
 use queue_client::sort;
 
 impl<B: Book> Controller<B> {

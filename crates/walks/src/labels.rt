@@ -1,0 +1,2 @@
+// Search labels.
+pub use queue_client::label::Label;
